@@ -1,0 +1,10 @@
+//! Texts, places, and the traits by which the expander meets files, pipes and processes.
+//! A caller may rely on the traits' clauses: counts of faults never fall, a fault comes only where its count rose.
+//! What real devices do is left to `real_links`; the implementations in memory here do it exactly.
+#![tactic(auto)]
+
+mod listed;
+mod text;
+
+pub use listed::Listed;
+pub use text::Text;
