@@ -1,0 +1,3 @@
+pub mod Told
+pub mod Outside
+pub mod Lines

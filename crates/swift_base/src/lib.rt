@@ -4,7 +4,13 @@
 #![tactic(auto)]
 
 mod listed;
+mod outside;
+mod place;
 mod text;
+mod write;
 
 pub use listed::Listed;
+pub use outside::{FileFault, Files, ReadFault, Sink, Source, StartFault, Starter, WriteFault};
+pub use place::{Span, line_column};
 pub use text::Text;
+pub use write::write_all;
