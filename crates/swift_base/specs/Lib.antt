@@ -1,3 +1,4 @@
 pub mod Told
 pub mod Outside
 pub mod Lines
+pub mod Memory

@@ -4,12 +4,14 @@
 #![tactic(auto)]
 
 mod listed;
+mod memory;
 mod outside;
 mod place;
 mod text;
 mod write;
 
 pub use listed::Listed;
+pub use memory::{MemSink, MemSource};
 pub use outside::{FileFault, Files, ReadFault, Sink, Source, StartFault, Starter, WriteFault};
 pub use place::{Span, line_column};
 pub use text::Text;
