@@ -11,7 +11,7 @@ mod text;
 mod write;
 
 pub use listed::Listed;
-pub use memory::{MemSink, MemSource};
+pub use memory::{MemFiles, MemScript, MemSink, MemSource, MemStarter};
 pub use outside::{FileFault, Files, ReadFault, Sink, Source, StartFault, Starter, WriteFault};
 pub use place::{Span, line_column};
 pub use text::Text;

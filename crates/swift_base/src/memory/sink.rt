@@ -1,5 +1,5 @@
 // A writer that keeps what it took.
-ghost use Rattle.std.specs.Prelude.{◌≡◌, ◌≤◌, ◌==◌, ◌&&◌, ◌||◌, ◌-◌, Some, None, [], length, nat_lt, IfOk, if◌then◌else◌};
+ghost use Rattle.std.specs.Prelude.{◌≡◌, ◌≤◌, ◌==◌, ◌&&◌, ◌||◌, ◌-◌, Some, None, [], length, vec_capacity, nat_lt, IfOk, if◌then◌else◌};
 ghost use Rattle.swift_base.specs.Memory.{SinkState, is_listed, raised, closing_after, write_fails, write_result, after_write};
 
 use crate::memory::{lists, raise};
@@ -43,14 +43,25 @@ impl MemSink {
         ensures { IfOk result (λ s. s ≡ record {
             held = []; room = room; failing = failing.items; calls = 0; faults = 0; closing = None }) }
     {
-        Ok(MemSink {
-            held: Vec::with_capacity(alloc, room as usize)?,
+        let held = Vec::with_capacity(alloc, room as usize)?;
+        Ok(MemSink::with_room(held, room, failing))
+    }
+
+    // The room was taken already.
+    pub(crate) fn with_room(held: Vec<u8>, room: u32, failing: Vec<u64>) -> MemSink
+        requires empty { held.items ≡ [] }
+        requires room { room ≤ vec_capacity held }
+        ensures { result ≡ record {
+            held = []; room = room; failing = failing.items; calls = 0; faults = 0; closing = None } }
+    {
+        MemSink {
+            held,
             room,
             failing,
             calls: 0,
             faults: 0,
             closing: None,
-        })
+        }
     }
 
     /// What it holds.
