@@ -7,6 +7,8 @@ mod listed;
 mod memory;
 mod outside;
 mod place;
+mod plugins;
+mod refusal;
 mod text;
 mod write;
 
@@ -14,5 +16,10 @@ pub use listed::Listed;
 pub use memory::{MemFiles, MemScript, MemSink, MemSource, MemStarter};
 pub use outside::{FileFault, Files, ReadFault, Sink, Source, StartFault, Starter, WriteFault};
 pub use place::{Span, line_column};
+pub use plugins::{Plugin, Plugins};
+pub use refusal::Refusal;
 pub use text::Text;
 pub use write::write_all;
+
+#[cfg(test)]
+mod tests;
