@@ -1,0 +1,52 @@
+-- The command that words mean. This project's own.
+use Rattle.std.specs.Prelude.{ℕ, ◌+◌, ◌==◌, ◌&&◌, ◌||◌, not, nat_lt, Bool, true, false, if◌then◌else◌, Option, Some, None, option_map, List, [], ◌∷◌, length, codes, position, take, drop}
+use Rattle.std.specs.Char.{is_ascii_alphabetic, is_ascii_alphanumeric}
+use Rattle.std.specs.List.{list_all}
+use Rattle.std.specs.Str.{bytes_eq}
+use Rattle.swift_base.specs.declared.plugins.Plugin.{Plugin}
+use Rattle.expand_top.specs.declared.command.Command.{Command}
+use Rattle.expand_top.specs.declared.command.Command.TheVariants as command
+
+-- a plain word that isn't empty; one that begins with `-` is plain only alone
+abbrev pub is_plain : List ℕ → Bool
+is_plain [] = false
+is_plain (first ∷ []) = true
+is_plain (first ∷ more) = not (first == 45)
+
+abbrev pub begins_module : ℕ → Bool
+begins_module first = is_ascii_alphabetic first || first == 95
+
+abbrev pub continues_module : ℕ → Bool
+continues_module byte = is_ascii_alphanumeric byte || byte == 95
+
+-- an ASCII letter or `_`, then ASCII letters, digits and `_`
+abbrev pub is_module : List ℕ → Bool
+is_module [] = false
+is_module (first ∷ more) = begins_module first && list_all continues_module more
+
+-- MODULE=COMMAND, split at its first `=`
+abbrev pub plugin_at : List ℕ → Option ℕ → Option Plugin
+plugin_at word None = None
+plugin_at word (Some equals) =
+    if is_module (take equals word) && nat_lt (equals + 1) (length word)
+    then Some (record { «module» = take equals word; command = drop (equals + 1) word })
+    else None
+
+abbrev pub plugin_of : List ℕ → Option Plugin
+plugin_of word = plugin_at word (position (λ b. b == 61) word)
+
+abbrev pub expands : List ℕ → List ℕ → Option (List Plugin) → Option Command
+expands verb source None = None
+expands verb source (Some plugins) =
+    if bytes_eq verb (codes "expand") && is_plain source then Some (command.Expand source plugins) else None
+
+-- no plug-in, or the one that the word names
+abbrev pub plugins_of : Option (List ℕ) → Option (List Plugin)
+plugins_of None = Some []
+plugins_of (Some word) = option_map (λ plugin. plugin ∷ []) (plugin_of word)
+
+-- `expand SOURCE [MODULE=COMMAND]`; any other words are no command
+abbrev pub command_of : List (List ℕ) → Option Command
+command_of (verb ∷ source ∷ []) = expands verb source (plugins_of None)
+command_of (verb ∷ source ∷ word ∷ []) = expands verb source (plugins_of (Some word))
+command_of words = None

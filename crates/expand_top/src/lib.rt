@@ -1,0 +1,8 @@
+//! The top call: it reads a source, asks its plug-in, and writes the expanded file or a list of faults.
+//! A caller may rely on the clauses of `run`, which speak of all that files, streams and processes tell.
+//! What these really are is left to the caller's implementations of the traits of `swift_base`.
+#![tactic(auto)]
+
+mod command;
+
+pub use command::{Command, Usage, words};
