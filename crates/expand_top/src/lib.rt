@@ -4,5 +4,6 @@
 #![tactic(auto)]
 
 mod command;
+mod payload;
 
 pub use command::{Command, Usage, words};

@@ -4,3 +4,5 @@ pub mod Lines
 pub mod Memory
 pub mod MemoryFiles
 pub mod MemoryStarter
+pub mod Refusing
+pub mod Names

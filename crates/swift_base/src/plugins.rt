@@ -1,7 +1,6 @@
 // Which command serves which module.
-ghost use Rattle.std.specs.Prelude.{◌≡◌, ◌≤◌, map, length};
-ghost use Rattle.std.specs.List.{IsDistinct};
-ghost use Rattle.std.specs.Str.{bytes_eq};
+ghost use Rattle.std.specs.Prelude.{◌≡◌, ◌≤◌, map, length, IsTrue};
+ghost use Rattle.swift_base.specs.Names.{are_distinct};
 
 use crate::text::Text;
 use std::marker::Model;
@@ -32,7 +31,7 @@ impl Plugins {
     /// At most 64 modules, no two of one name.
     pub fn new(list: Vec<Plugin>) -> Plugins
         requires few { length list.items ≤ 64 }
-        requires distinct { IsDistinct bytes_eq (map (λ plugin. plugin.module) list.items) }
+        requires distinct { IsTrue (are_distinct (map (λ plugin. plugin.module) list.items)) }
         ensures { result ≡ list.items }
     {
         Plugins { list }
