@@ -1,0 +1,9 @@
+pub mod Fronts
+pub mod OneGrouping
+pub mod OneOutcome
+pub mod Reaching
+pub mod Reading
+pub mod Runs
+pub mod Standing
+pub mod Tiling
+pub mod Trees

@@ -1,0 +1,24 @@
+-- Laws of the definitions.
+use Rattle.std.specs.Prelude.{◌≡◌, ℕ, ◌≤◌, List, Ok}
+use Rattle.swift_lexer.specs.Tokens.{Outcome, IsLexed}
+use Rattle.swift_lexer.specs.Tiles.{TokensTile}
+use Rattle.swift_lexer.specs.Trees.{Forest, forest_tokens, forest_depth, AreMatched}
+use Rattle.swift_lexer.specs.Groups.{GroupOutcome, IsGrouped}
+use Rattle.swift_lexer.specs.declared.bytes.TheConstants.{DEEPEST}
+use Rattle.swift_lexer.specs.declared.token.Token.{Token}
+
+-- a text has at most one outcome
+abbrev pub OneTokenOutcome : Type 0
+OneTokenOutcome = (text : List ℕ) (one other : Outcome) → IsLexed text one → IsLexed text other → one ≡ other
+
+-- the tokens of a text and their trivia tile it
+abbrev pub TokensOfATextTile : Type 0
+TokensOfATextTile = (text : List ℕ) (tokens : List Token) → IsLexed text (Ok tokens) → TokensTile text tokens
+
+-- the tokens of a text have at most one grouping
+abbrev pub OneGroupOutcome : Type 0
+OneGroupOutcome = (text : List ℕ) (tokens : List Token) (one other : GroupOutcome) → IsGrouped text tokens one → IsGrouped text tokens other → one ≡ other
+
+-- the tokens of the groups are the tokens that were grouped; brackets match and are nested as deep as they may
+abbrev pub GroupsHoldTheTokens : Type 0
+GroupsHoldTheTokens = (text : List ℕ) (tokens : List Token) (forest : Forest) → IsGrouped text tokens (Ok forest) → (forest_tokens forest ≡ tokens) × AreMatched text forest × (forest_depth forest ≤ DEEPEST)

@@ -1,0 +1,10 @@
+pub mod Answers
+pub mod Bytes
+pub mod Fronts
+pub mod Groups
+pub mod Laws
+pub mod Openings
+pub mod Runs
+pub mod Tiles
+pub mod Tokens
+pub mod Trees

@@ -1,0 +1,149 @@
+// Tokens into bracket groups.
+
+ghost use Rattle.std.specs.Prelude.{◌≡◌, ℕ, List, [], Ok, slice_index};
+ghost use Rattle.swift_lexer.specs.Answers.{Answers};
+ghost use Rattle.swift_lexer.specs.Groups.{IsGrouped};
+ghost use Rattle.swift_lexer.specs.Openings.{Stands, Takes};
+ghost use Rattle.swift_lexer.specs.Tokens.{IsLexed};
+ghost use Rattle.swift_lexer.specs.Trees.{closes, forest_of, leaf, nest, tree_of};
+ghost use Rattle.swift_lexer.specs.declared.refusal.Refusal.TheVariants.{Fault};
+ghost use Rattle.swift_lexer.specs.declared.token.Token.{Token};
+ghost use Rattle.swift_lexer.specs.declared.token.Class.TheVariants.{LeftBracket, RightBracket};
+
+use crate::bytes::{DEEPEST, is_bracket_pair};
+use crate::element::{Element, GroupFault, GroupKind};
+use crate::refusal::Refusal;
+use crate::token::{Class, Token};
+use std::alloc::Global;
+use std::mem;
+
+/// A left bracket that is still open, and what stands before it on its level.
+#[derive(Drop)]
+pub struct OpenGroup {
+    pub before: Vec<Element>,
+    pub left: Token,
+}
+
+/// The open brackets from the outermost on, and what stands on the innermost level.
+#[derive(Drop)]
+pub struct Grouping {
+    pub levels: Vec<OpenGroup>,
+    pub here: Vec<Element>,
+}
+
+/// The tokens of a text in bracket groups, or the first fault of its brackets.
+pub fn group(
+    alloc: Global,
+    tokens: &[Token],
+    text: &[u8],
+) -> Result<Vec<Element>, Refusal<GroupFault>>
+    requires { IsLexed text.now (Ok tokens.now) }
+    ensures { Answers (λ elements. forest_of elements.items) result (IsGrouped text.now tokens.now) }
+{
+    let mut grouping = Grouping {
+        levels: Vec::new(alloc),
+        here: Vec::new(alloc),
+    };
+    for token in tokens {
+        take(alloc, &mut grouping, *token, text)?;
+    }
+    finish(grouping)
+}
+
+fn take(
+    alloc: Global,
+    grouping: &mut Grouping,
+    token: Token,
+    text: &[u8],
+) -> Result<(), Refusal<GroupFault>>
+    ensures { Takes text.now token grouping.old grouping.new result }
+{
+    match token.class {
+        Class::LeftBracket => open_group(alloc, grouping, token),
+        Class::RightBracket => close_group(grouping, token, text),
+        _ => {
+            grouping.here.push(leaf_of(token))?;
+            Ok(())
+        }
+    }
+}
+
+fn open_group(
+    alloc: Global,
+    grouping: &mut Grouping,
+    left: Token,
+) -> Result<(), Refusal<GroupFault>>
+    requires { left.class ≡ LeftBracket }
+    ensures { (text : List ℕ) → Takes text left grouping.old grouping.new result }
+{
+    let depth = grouping.levels.len();
+    if depth >= DEEPEST {
+        return Err(refusal_at(left, GroupKind::TooDeep));
+    }
+    let before = mem::replace(&mut grouping.here, Vec::new(alloc));
+    grouping.levels.push(OpenGroup { before, left })?;
+    Ok(())
+}
+
+fn close_group(
+    grouping: &mut Grouping,
+    right: Token,
+    text: &[u8],
+) -> Result<(), Refusal<GroupFault>>
+    requires { right.class ≡ RightBracket }
+    ensures { Takes text.now right grouping.old grouping.new result }
+{
+    let Some(OpenGroup { before, left }) = grouping.levels.pop() else {
+        return Err(refusal_at(right, GroupKind::Unopened));
+    };
+    if !closes(text, left, right) {
+        return Err(refusal_at(right, GroupKind::Mismatched));
+    }
+    let inner = mem::replace(&mut grouping.here, before);
+    grouping.here.push(nest_of(left, inner, right))?;
+    Ok(())
+}
+
+fn finish(grouping: Grouping) -> Result<Vec<Element>, Refusal<GroupFault>>
+    ensures { (text : List ℕ) (tokens : List Token) → Stands text tokens grouping [] → Answers (λ elements. forest_of elements.items) result (IsGrouped text tokens) }
+{
+    let Grouping { mut levels, here } = grouping;
+    match levels.pop() {
+        Some(group) => Err(refusal_at(group.left, GroupKind::Unclosed)),
+        None => Ok(here),
+    }
+}
+
+fn refusal_at(token: Token, kind: GroupKind) -> Refusal<GroupFault>
+    ensures { result ≡ Fault (record { at = token.start; kind = kind }) }
+{
+    let at = token.start;
+    Refusal::Fault(GroupFault { at, kind })
+}
+
+fn leaf_of(token: Token) -> Element
+    ensures { tree_of result ≡ leaf token }
+{
+    Element::Leaf(token)
+}
+
+fn nest_of(left: Token, inner: Vec<Element>, right: Token) -> Element
+    ensures { tree_of result ≡ nest left (forest_of inner.items) right }
+{
+    Element::Nest { left, inner, right }
+}
+
+/// Whether the right bracket is of the kind of the left one.
+#[tactic(auto, unfolding(crate::specs::Trees::closes))]
+fn closes(text: &[u8], left: Token, right: Token) -> bool
+    ensures { result ≡ closes text.now left right }
+{
+    is_bracket_pair(byte_at(text, left.start), byte_at(text, right.start))
+}
+
+/// The byte at a place, 0 past the end.
+fn byte_at(text: &[u8], at: u32) -> u8
+    ensures { result ≡ slice_index text.now at }
+{
+    text.get(at as usize).copied().unwrap_or(0)
+}

@@ -1,0 +1,23 @@
+// Laws of the definitions: a call of each brings it in as a fact.
+
+ghost use Rattle.swift_lexer.specs.Laws.{GroupsHoldTheTokens, OneGroupOutcome, OneTokenOutcome, TokensOfATextTile};
+
+/// A text is either accepted with one list of tokens or refused with one fault.
+pub fn one_token_outcome()
+    ensures { OneTokenOutcome }
+{}
+
+/// Tokens and trivia, joined, are the text.
+pub fn tokens_tile()
+    ensures { TokensOfATextTile }
+{}
+
+/// The tokens of a text are grouped in one way or refused with one fault.
+pub fn one_group_outcome()
+    ensures { OneGroupOutcome }
+{}
+
+/// The tokens of the groups are the tokens that were grouped.
+pub fn groups_hold_the_tokens()
+    ensures { GroupsHoldTheTokens }
+{}

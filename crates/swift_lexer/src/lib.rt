@@ -1,0 +1,23 @@
+// Reads a Swift text into tokens, and tokens into bracket groups.
+// A caller may rely on `lex` and `group` answering the one outcome that `IsLexed` and `IsGrouped` give, want of memory aside.
+// What the tokens and groups mean is left to the crates above.
+#![tactic(auto)]
+
+mod bytes;
+mod element;
+mod front;
+mod grouping;
+mod laws;
+mod lexing;
+mod refusal;
+mod token;
+
+pub use element::{Element, GroupFault, GroupKind};
+pub use grouping::group;
+pub use laws::{groups_hold_the_tokens, one_group_outcome, one_token_outcome, tokens_tile};
+pub use lexing::{LONGEST_TEXT, lex};
+pub use refusal::Refusal;
+pub use token::{Class, LexFault, LexKind, Token};
+
+#[cfg(test)]
+mod tests;
