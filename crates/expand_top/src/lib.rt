@@ -4,6 +4,7 @@
 #![tactic(auto)]
 
 mod command;
+mod elements;
 mod payload;
 
 pub use command::{Command, Usage, words};
