@@ -1,3 +1,5 @@
 pub mod Command
 pub mod Elements
+pub mod Form
 pub mod Payload
+pub mod Source

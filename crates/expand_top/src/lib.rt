@@ -5,6 +5,8 @@
 
 mod command;
 mod elements;
+mod form;
+mod line;
 mod payload;
 
 pub use command::{Command, Usage, words};

@@ -1,5 +1,5 @@
 -- What cutting keeps: whatever is still to be read completes the whole.
-use Rattle.std.proofs.Common.{◌≡◌, ℕ, List, [], ◌∷◌, ◌++◌, refl, sym, ap, subst, ◌∙◌, append_assoc}
+use Rattle.std.proofs.Common.{◌≡◌, ℕ, List, [], ◌∷◌, ◌++◌, ap, subst, ◌∙◌, append_assoc}
 use Rattle.std.proofs.lemmas.List.{append-nil, map_push}
 use Rattle.std.specs.declared.vec.Vec.{Vec}
 use Rattle.plugin_frames.specs.Frames.{BeginsWithFrame, BeginsTooLong, IsUnfinished, Tail, Rest, Length, IsFrames, unfinished, too_long, frame}

@@ -1,13 +1,13 @@
 -- What a piece appends, from what has come of the frame that is begun.
-use Rattle.std.proofs.Common.{◌≡◌, ℕ, ◌+◌, ◌-◌, ◌<◌, ◌≤◌, List, [], ◌∷◌, ◌++◌, length, take, drop, refl, sym, ap, subst, ◌∙◌, append_assoc, arith, inl, inr, length-append}
+use Rattle.std.proofs.Common.{◌≡◌, ℕ, ◌+◌, ◌<◌, ◌≤◌, List, [], ◌∷◌, ◌++◌, length, take, drop, refl, sym, ap, subst, ◌∙◌, append_assoc, arith, inl, inr, length-append}
 use Rattle.std.proofs.lemmas.Bool.{cases_lt}
-use Rattle.std.proofs.lemmas.List.{append-nil, take-append-drop, take-append-le, length-take-le, length-drop}
+use Rattle.std.proofs.lemmas.List.{append-nil, take-append-drop, take-append-le, length-take-le}
 use Rattle.std.specs.declared.vec.Vec.{Vec}
 use Rattle.plugin_frames.specs.Frames.{largest_payload, spelled, BeginsWithFrame, BeginsTooLong, IsUnfinished, Tail, Rest, Length, IsFrames, unfinished, too_long, frame}
 use Rattle.plugin_frames.specs.Cutting.{payloads_of}
-use Rattle.plugin_frames.specs.Feeding.{Appends, AppendsAfter}
+use Rattle.plugin_frames.specs.Feeding.{Appends, AppendsAfter, ReadsOn}
 use Rattle.plugin_frames.proofs.Beginnings.{BeginsWithFrame-at, BeginsTooLong-at, BeginsTooLong-append, IsUnfinished-header, IsUnfinished-payload}
-use Rattle.plugin_frames.proofs.Readings.{one_reading, unfinished_tail}
+use Rattle.plugin_frames.proofs.Readings.{one_reading, unfinished_tail, frames_go_on}
 
 -- ---- a frame that is begun
 
@@ -110,3 +110,19 @@ module _ {A : Type 0} where
   one_length held rest piece old new payloads met len e a f =
       let same : Length met ≡ Length len = one_tail held rest piece old new (Length met) (Length len) payloads e a f in
       cc
+
+  -- ---- what was read of a stream so far, and what a further piece adds
+
+  pub reads_on : (bytes piece : List ℕ) (given : List (List ℕ)) (old new : List (Vec ℕ A)) (before after : Tail) → IsFrames bytes given before → ReadsOn before piece old new after
+      → (later : List (List ℕ)) × (payloads_of new ≡ payloads_of old ++ later) × IsFrames (bytes ++ piece) (given ++ later) after
+  reads_on bytes piece given old new before after f r =
+      let P : Tail → Type 0 = λ t. IsFrames bytes given t in
+      (r.read.payloads, r.read.appended, frames_go_on bytes piece r.rest given r.read.payloads after (subst P r.held f) r.read.frames)
+
+  -- the same where the list has all payloads so far
+  pub reads_whole : (bytes piece : List ℕ) (old new : List (Vec ℕ A)) (before after : Tail) → IsFrames bytes (payloads_of old) before → ReadsOn before piece old new after
+      → IsFrames (bytes ++ piece) (payloads_of new) after
+  reads_whole bytes piece old new before after f r =
+      let on = reads_on bytes piece (payloads_of old) old new before after f r in
+      let P : List (List ℕ) → Type 0 = λ ps. IsFrames (bytes ++ piece) ps after in
+      subst P (sym on.1) on.2

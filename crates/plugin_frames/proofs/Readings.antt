@@ -1,11 +1,10 @@
 -- The laws of frames.
-use Rattle.std.proofs.Common.{◌≡◌, ℕ, zero, suc, ◌+◌, ◌<◌, ◌≤◌, List, [], ◌∷◌, ◌++◌, length, take, drop, refl, sym, ap, subst, ◌∙◌, append_assoc, arith, inl, inr, ◌⊎◌}
-use Rattle.std.specs.Prelude.{All}
+use Rattle.std.proofs.Common.{◌≡◌, ℕ, zero, suc, ◌+◌, ◌≤◌, List, [], ◌∷◌, ◌++◌, length, take, drop, refl, sym, ap, subst, ◌∙◌, append_assoc, arith, inl, inr}
 use Rattle.std.specs.List.{AllByRecursion, concat}
 use Rattle.std.proofs.lemmas.Bool.{cases_lt}
 use Rattle.std.proofs.lemmas.List.{length-drop, append-nil}
 use Rattle.std.proofs.lemmas.List.Elements.{recursion_from_All}
-use Rattle.plugin_frames.specs.Frames.{largest_payload, spelled, frame_of, frames_of, Fits, BeginsWithFrame, BeginsTooLong, IsUnfinished, Tail, Rest, Length, IsFrames, unfinished, too_long, frame}
+use Rattle.plugin_frames.specs.Frames.{largest_payload, spelled, frame_of, frames_of, Fits, IsUnfinished, Tail, Rest, Length, IsFrames, unfinished, too_long, frame}
 use Rattle.plugin_frames.proofs.Beginnings.{BeginsWithFrame-at, BeginsTooLong-at, IsUnfinished-header, IsUnfinished-payload, one_frame, one_length, no_frame_too_long, BeginsWithFrame-append, BeginsTooLong-append, BeginsWithFrame-frame_of}
 use Rattle.plugin_frames.specs.Laws.{EachListIsFrames, OneReading, FramesGoOn, LengthStays, RestIsUnfinished, ReadsPieces, PiecesDoNotMatter, NoFrames, FrameComesFirst, FramesComeFirst, FramesAreRead, FramesAlone}
 

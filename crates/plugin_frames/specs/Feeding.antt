@@ -1,5 +1,5 @@
 -- What feeding a reader a piece does; this project's own.
-use Rattle.std.specs.Prelude.{◌≡◌, ℕ, ◌<◌, List, ◌∷◌, ◌++◌, length, Option, Some, None, Result, Ok, Err}
+use Rattle.std.specs.Prelude.{◌≡◌, ℕ, ◌<◌, List, ◌∷◌, ◌++◌, length, Result, Ok, Err}
 use Rattle.std.specs.declared.vec.Vec.{Vec}
 use Rattle.plugin_frames.specs.declared.refusal.FrameFault.{FrameFault}
 use Rattle.plugin_frames.specs.declared.refusal.FrameFault.TheVariants as fault
@@ -26,6 +26,10 @@ pub record ReadsOn {A : Type 0} (before : Tail) (piece : List ℕ) (old new : Li
   pub rest : List ℕ
   pub held : before ≡ Rest rest
   pub read : Appends (rest ++ piece) old new after
+
+-- and then a rest
+abbrev pub LeavesRest : {A : Type 0} → Tail → List ℕ → List (Vec ℕ A) → List (Vec ℕ A) → Tail → Type 0
+LeavesRest before piece old new after = (left : List ℕ) × (after ≡ Rest left) × ReadsOn before piece old new after
 
 -- want of memory and a length that was met before change nothing, and the first comes only where none was met
 abbrev pub Refuses : {A : Type 0} → Refusal FrameFault → Tail → List ℕ → List (Vec ℕ A) → List (Vec ℕ A) → Tail → Type 0

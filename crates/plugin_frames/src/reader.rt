@@ -2,7 +2,7 @@
 
 ghost use Rattle.std.specs.Prelude.{◌≡◌, ◌↔◌, ◌+◌, ◌^◌, ◌<◌, ◌++◌, ℕ, List, [], length, take, IfOk, IfErr, OnOk, OnErr, IsTrue};
 ghost use Rattle.plugin_frames.specs.Frames.{Rest, Length, IsUnfinished, IsFrames};
-ghost use Rattle.plugin_frames.specs.Feeding.{Appends, AppendsAfter, ReadsOn, Refuses, IsFaultUnlessMemory, IsWaiting};
+ghost use Rattle.plugin_frames.specs.Feeding.{Appends, AppendsAfter, LeavesRest, Refuses, IsFaultUnlessMemory, IsWaiting};
 
 use crate::cutting::{End, cut, length_in};
 use crate::heading::LARGEST_PAYLOAD;
@@ -37,6 +37,7 @@ impl Model for FrameReader {
 }
 
 impl FrameReader {
+    /// Nothing is read yet. This takes no memory.
     pub fn new(alloc: Global) -> FrameReader
         ensures { result ≡ Rest [] }
     {
@@ -47,14 +48,21 @@ impl FrameReader {
     }
 
     /// Takes the next piece of the stream, and appends each payload that it completes to `out`.
+    /// After want of memory the piece may be fed again.
     pub fn feed(&mut self, piece: &[u8], out: &mut Vec<Vec<u8>>) -> Result<(), Refusal<FrameFault>>
-        ensures ok { OnOk result ((left : List ℕ) × (self.new ≡ Rest left) × ReadsOn self.old piece.now out.old.items out.new.items self.new) }
-        ensures refused { IfErr result (λ refusal. Refuses refusal self.old piece.now out.old.items out.new.items self.new) }
+        ensures ok { OnOk result
+            (LeavesRest self.old piece.now out.old.items out.new.items self.new) }
+        ensures refused { IfErr result
+            (λ refusal. Refuses refusal self.old piece.now out.old.items out.new.items self.new) }
 
-        // A length above the limit is reported by the piece that completes it, and by each call from then on.
-        ensures too_long { (rest : List ℕ) (payloads : List (List ℕ)) (len : ℕ) → self.old ≡ Rest rest
-            → IsFrames (rest ++ piece.now) payloads (Length len) → IsFaultUnlessMemory result (FrameFault.TooLong len) }
-        ensures dead { (len : ℕ) → self.old ≡ Length len → result ≡ Err (Refusal.Fault (FrameFault.Dead len)) }
+        // A length above the limit is reported by the piece that completes it ..
+        ensures too_long { (rest : List ℕ) (payloads : List (List ℕ)) (len : ℕ)
+            → self.old ≡ Rest rest → IsFrames (rest ++ piece.now) payloads (Length len)
+            → IsFaultUnlessMemory result (FrameFault.TooLong len) }
+
+        // .. and by each call from then on.
+        ensures dead { (len : ℕ) → self.old ≡ Length len
+            → result ≡ Err (Refusal.Fault (FrameFault.Dead len)) }
     {
         let alloc = self.alloc;
         match &mut self.held {
@@ -94,8 +102,10 @@ fn read_on(
     out: &mut Vec<Vec<u8>>,
 ) -> Result<Option<Held>, AllocError>
     requires { IsUnfinished rest.old.items }
-    ensures ok { IfOk result (λ next. Appends (rest.old.items ++ piece.now) out.old.items out.new.items (tail_after next rest.new.items)) }
-    ensures err { OnErr result ((rest.new.items ≡ rest.old.items) × (out.new.items ≡ out.old.items)) }
+    ensures ok { IfOk result (λ next. Appends (rest.old.items ++ piece.now)
+        out.old.items out.new.items (tail_after next rest.new.items)) }
+    ensures rest { OnErr result (rest.new.items ≡ rest.old.items) }
+    ensures out { OnErr result (out.new.items ≡ out.old.items) }
 {
     let before = rest.len();
     match read_begun(alloc, rest, piece, out) {
@@ -115,9 +125,10 @@ fn read_begun(
     out: &mut Vec<Vec<u8>>,
 ) -> Result<Option<Held>, AllocError>
     requires { IsUnfinished rest.old.items }
-    ensures ok { IfOk result (λ next. Appends (rest.old.items ++ piece.now) out.old.items out.new.items (tail_after next rest.new.items)) }
-    ensures kept { OnErr result (take (length rest.old.items) rest.new.items ≡ rest.old.items) }
-    ensures err { OnErr result (out.new.items ≡ out.old.items) }
+    ensures ok { IfOk result (λ next. Appends (rest.old.items ++ piece.now)
+        out.old.items out.new.items (tail_after next rest.new.items)) }
+    ensures rest { OnErr result (take (length rest.old.items) rest.new.items ≡ rest.old.items) }
+    ensures out { OnErr result (out.new.items ≡ out.old.items) }
 {
     let behind = fill_header(rest, piece)?;
     let Some((header, begun)) = rest.split_first_chunk::<8>() else {
@@ -137,7 +148,7 @@ fn read_begun(
     Ok(Some(take_frames(alloc, payload, more, out)?))
 }
 
-// Moves bytes from the piece to the rest until that has a header.
+// Moves bytes from the piece to the rest until that has a header, and answers those behind them.
 fn fill_header<'a>(rest: &mut Vec<u8>, piece: &'a [u8]) -> Result<&'a [u8], AllocError>
     ensures whole { IfOk result (λ behind. rest.new.items ++ behind.now ≡ rest.old.items ++ piece.now) }
     ensures full { IfOk result (λ behind. length rest.new.items < 8 → behind.now ≡ []) }
@@ -167,7 +178,8 @@ fn take_frames(
     more: &[u8],
     out: &mut Vec<Vec<u8>>,
 ) -> Result<Held, AllocError>
-    ensures ok { IfOk result (λ held. AppendsAfter payload.items more.now out.old.items out.new.items (tail_held held)) }
+    ensures ok { IfOk result
+        (λ held. AppendsAfter payload.items more.now out.old.items out.new.items (tail_held held)) }
     ensures err { OnErr result (out.new.items ≡ out.old.items) }
 {
     let (mut payloads, end) = cut(alloc, more)?;

@@ -1,5 +1,5 @@
 -- From the runs at the front of a text to the token there.
-use Rattle.std.proofs.Common.{◌≡◌, ℕ, suc, ◌+◌, ◌<◌, ◌≤◌, Bool, true, false, List, [], ◌∷◌, ◌++◌, length, take, drop, Some, None, Option, sym, refl, ap, subst, arith, add-one, ◌∙◌, append_assoc, take-append-drop, ◌==◌}
+use Rattle.std.proofs.Common.{◌≡◌, ℕ, suc, ◌+◌, ◌≤◌, Bool, true, false, List, [], ◌∷◌, ◌++◌, length, take, drop, Some, None, sym, refl, ap, subst, arith, ◌∙◌, append_assoc, take-append-drop, ◌==◌}
 use Rattle.std.specs.List.{AllPass}
 use Rattle.std.proofs.lemmas.List.{length-take-le, length-append, length-drop, drop-drop}
 use Rattle.std.proofs.lemmas.Bool.{false≢true}
@@ -9,8 +9,8 @@ use Rattle.swift_lexer.specs.declared.token.Class.TheVariants.{Word, Number, Ope
 use Rattle.swift_lexer.specs.declared.bytes.TheConstants.{QUOTE}
 use Rattle.swift_lexer.specs.Bytes.{is_word_start, is_word_part, is_operator, is_string_part, class_of}
 use Rattle.swift_lexer.specs.Runs.{StopsAt, IsRun}
-use Rattle.swift_lexer.specs.Tokens.{IsWord, ClosesString, GoesOn, MayFollow, IsToken, IsFront, HasNoFront}
-use Rattle.swift_lexer.specs.Fronts.{IsBody, HasNoBody, IsFrontOf, BeginsWith}
+use Rattle.swift_lexer.specs.Tokens.{IsWord, ClosesString, GoesOn, MayFollow, IsToken, HasNoFront}
+use Rattle.swift_lexer.specs.Fronts.{IsBody, HasNoBody, IsFrontOf}
 use Rattle.swift_lexer.proofs.Runs.{run_longest, run_one}
 
 -- no run of passing bytes at the front is longer than the longest

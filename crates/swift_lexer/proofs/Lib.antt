@@ -6,4 +6,5 @@ pub mod Reading
 pub mod Runs
 pub mod Standing
 pub mod Tiling
+pub mod TokenBytes
 pub mod Trees

@@ -1,11 +1,10 @@
 -- The tokens of a text have at most one grouping: each outcome is the one that reading with a list of open levels gives.
-use Rattle.std.proofs.Common.{◌≡◌, ◌≢◌, ℕ, suc, ◌+◌, ◌<◌, ◌≤◌, Bool, true, false, cond, leb, max, List, [], ◌∷◌, ◌++◌, length, Ok, Err, sym, refl, ap, subst, arith, ◌∙◌, append_assoc, append-nil}
-use Rattle.std.proofs.lemmas.List.{length-append}
+use Rattle.std.proofs.Common.{◌≡◌, ◌≢◌, ℕ, ◌+◌, ◌<◌, ◌≤◌, true, cond, leb, List, [], ◌∷◌, ◌++◌, length, Ok, Err, sym, refl, ap, arith, ◌∙◌, append_assoc, append-nil}
 use Rattle.std.proofs.lemmas.Bool.{le-leb, lt-leb}
 use Rattle.swift_lexer.specs.declared.token.Class.{Class}
 use Rattle.swift_lexer.specs.declared.token.Class.TheVariants.{LeftBracket, RightBracket}
 use Rattle.swift_lexer.specs.declared.token.Token.{Token}
-use Rattle.swift_lexer.specs.declared.bytes.TheConstants.{DEEPEST}
+use Rattle.swift_lexer.specs.declared.element.TheConstants.{DEEPEST}
 use Rattle.swift_lexer.specs.declared.element.GroupKind.TheVariants.{Unopened, Unclosed, Mismatched, TooDeep}
 use Rattle.swift_lexer.specs.Trees.{Tree, leaf, nest, Forest, none, cons, tree_tokens, forest_tokens, tree_depth, forest_depth, closes, IsMatched, AreMatched}
 use Rattle.swift_lexer.specs.Groups.{Level, open_tokens, AreOpen, Reaches, GroupOutcome, IsGrouped, grouped, unopened, mismatched, too_deep, unclosed}

@@ -1,15 +1,14 @@
 -- A text has at most one outcome.
-use Rattle.std.proofs.Common.{◌≡◌, ℕ, suc, ◌+◌, ◌<◌, ◌≤◌, ◌⊎◌, inl, inr, Bool, true, false, eqb, List, [], ◌∷◌, ◌++◌, length, take, drop, Result, Ok, Err, Option, Some, None, sym, refl, ap, subst, arith, ◌∙◌, append_assoc, append-nil}
-use Rattle.std.specs.List.{AllPass, list_any}
+use Rattle.std.proofs.Common.{◌≡◌, ℕ, true, false, eqb, List, [], ◌∷◌, ◌++◌, length, Err, None, sym, refl, ap, subst, arith, ◌∙◌, append-nil}
+use Rattle.std.specs.List.{AllPass}
 use Rattle.std.proofs.lemmas.List.{length-append}
-use Rattle.std.proofs.lemmas.List.Elements.{All-head, All-tail, All-drop}
 use Rattle.std.proofs.lemmas.Bool.{false≢true, eqb-true}
 use Rattle.swift_lexer.specs.declared.token.Class.{Class}
 use Rattle.swift_lexer.specs.declared.token.Token.{Token}
 use Rattle.swift_lexer.specs.declared.token.LexFault.{LexFault}
 use Rattle.swift_lexer.specs.Bytes.{is_blank, class_of}
 use Rattle.swift_lexer.specs.Runs.{StopsAt}
-use Rattle.swift_lexer.specs.Tokens.{IsToken, IsFront, HasNoFront, Reads, StopsReading, Outcome, after_token, IsLexedFrom, ends, reads, faults}
+use Rattle.swift_lexer.specs.Tokens.{IsToken, IsFront, Reads, StopsReading, Outcome, after_token, IsLexedFrom, ends, reads, faults}
 use Rattle.swift_lexer.specs.Laws.{OneTokenOutcome}
 use Rattle.swift_lexer.proofs.Runs.{run_one}
 use Rattle.swift_lexer.proofs.Reading.{token_length}

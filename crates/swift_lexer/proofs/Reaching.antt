@@ -1,11 +1,11 @@
 -- How far grouping reaches: a token at a time, and at the end.
-use Rattle.std.proofs.Common.{◌≡◌, ◌≢◌, ℕ, suc, ◌+◌, ◌-◌, ◌<◌, ◌≤◌, max, List, [], ◌∷◌, ◌++◌, length, map, sym, refl, ap, subst, arith, ◌∙◌, append_assoc, append-nil, true}
+use Rattle.std.proofs.Common.{◌≡◌, ℕ, suc, ◌+◌, ◌-◌, ◌<◌, ◌≤◌, List, [], ◌∷◌, ◌++◌, length, sym, refl, ap, arith, ◌∙◌, append_assoc, append-nil}
 use Rattle.std.proofs.lemmas.List.{length-append}
-use Rattle.swift_lexer.specs.declared.token.Class.TheVariants.{LeftBracket, RightBracket}
+use Rattle.swift_lexer.specs.declared.token.Class.TheVariants.{LeftBracket}
 use Rattle.swift_lexer.specs.declared.token.Token.{Token}
-use Rattle.swift_lexer.specs.declared.bytes.TheConstants.{DEEPEST}
-use Rattle.swift_lexer.specs.Trees.{Tree, leaf, nest, Forest, none, cons, tree_tokens, forest_tokens, tree_depth, forest_depth, IsMatched, AreMatched, forest_from}
-use Rattle.swift_lexer.specs.Groups.{Level, open_tokens, AreOpen, Reaches, IsGrouped, grouped}
+use Rattle.swift_lexer.specs.declared.element.TheConstants.{DEEPEST}
+use Rattle.swift_lexer.specs.Trees.{Tree, nest, Forest, none, tree_tokens, forest_tokens, tree_depth, forest_depth, IsMatched, AreMatched, forest_from}
+use Rattle.swift_lexer.specs.Groups.{Level, open_tokens, AreOpen, Reaches, grouped}
 use Rattle.swift_lexer.specs.Laws.{GroupsHoldTheTokens}
 
 -- one tree more at the end of a row

@@ -1,5 +1,5 @@
 -- What one step of reading gives, and what it keeps.
-use Rattle.std.proofs.Common.{◌≡◌, ℕ, suc, ◌+◌, ◌<◌, ◌≤◌, List, [], ◌∷◌, ◌++◌, length, take, drop, Result, Ok, Err, sym, refl, ap, subst, arith, ◌∙◌, append-nil, append_assoc, take-append-drop}
+use Rattle.std.proofs.Common.{◌≡◌, ℕ, ◌+◌, ◌<◌, List, [], ◌∷◌, ◌++◌, length, take, drop, Ok, Err, sym, refl, ap, subst, arith, ◌∙◌, append-nil, append_assoc, take-append-drop}
 use Rattle.std.proofs.lemmas.List.{length-take-le, length-append}
 use Rattle.swift_lexer.specs.declared.token.Class.{Class}
 use Rattle.swift_lexer.specs.declared.token.Token.{Token}

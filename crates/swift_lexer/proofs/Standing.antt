@@ -1,14 +1,14 @@
 -- What each step of grouping does to where it stands.
-use Rattle.std.proofs.Common.{◌≡◌, ◌≢◌, ℕ, ◌+◌, ◌<◌, ◌≤◌, List, [], ◌∷◌, ◌++◌, length, map, Ok, Err, sym, refl, ap, subst, arith, ◌∙◌, append_assoc, append-nil, true, false, slice_index}
-use Rattle.std.proofs.lemmas.List.{length-append, map_push}
+use Rattle.std.proofs.Common.{◌≡◌, ◌≢◌, ℕ, ◌<◌, ◌≤◌, List, [], ◌∷◌, ◌++◌, length, map, Ok, Err, sym, refl, ap, subst, arith, ◌∙◌, append-nil, true, false}
+use Rattle.std.proofs.lemmas.List.{map_push}
 use Rattle.swift_lexer.specs.declared.token.Class.TheVariants.{LeftBracket, RightBracket}
 use Rattle.swift_lexer.specs.declared.token.Token.{Token}
-use Rattle.swift_lexer.specs.declared.bytes.TheConstants.{DEEPEST}
+use Rattle.swift_lexer.specs.declared.element.TheConstants.{DEEPEST}
 use Rattle.swift_lexer.specs.declared.element.Element.{Element}
 use Rattle.swift_lexer.specs.declared.element.GroupKind.TheVariants.{Unopened, Unclosed, Mismatched, TooDeep}
 use Rattle.swift_lexer.specs.declared.grouping.OpenGroup.{OpenGroup}
 use Rattle.swift_lexer.specs.declared.grouping.Grouping.{Grouping}
-use Rattle.swift_lexer.specs.Trees.{Tree, leaf, nest, Forest, none, forest_tokens, tree_tokens, closes, IsMatched, forest_from, forest_of, tree_of}
+use Rattle.swift_lexer.specs.Trees.{Tree, leaf, nest, none, forest_tokens, closes, forest_from, forest_of, tree_of}
 use Rattle.swift_lexer.specs.Groups.{Level, Reaches, IsGrouped, grouped, unopened, mismatched, too_deep, unclosed}
 use Rattle.swift_lexer.specs.Openings.{level_of, Stands, Passes, Stops}
 use Rattle.swift_lexer.proofs.Reaching.{Reaches-push, Reaches-open, Reaches-close, low_innermost}

@@ -1,13 +1,13 @@
 -- Tokens and trivia tile their text.
-use Rattle.std.proofs.Common.{◌≡◌, ℕ, ◌+◌, ◌-◌, ◌<◌, ◌≤◌, List, [], ◌∷◌, ◌++◌, length, take, drop, slice_range, Ok, Err, sym, refl, ap, subst, arith, ◌∙◌, append_assoc}
+use Rattle.std.proofs.Common.{◌≡◌, ℕ, ◌+◌, ◌-◌, List, [], ◌∷◌, ◌++◌, length, take, drop, slice_range, Ok, Err, sym, refl, ap, subst, arith, ◌∙◌, append_assoc}
 use Rattle.std.specs.List.{All, AllPass}
 use Rattle.std.proofs.lemmas.List.{length-append}
 use Rattle.std.proofs.lemmas.List.Elements.{All-nil, All-cons}
 use Rattle.std.proofs.Math.Seq.{drop-append_seam, take-append_seam}
 use Rattle.swift_lexer.specs.declared.token.Token.{Token}
 use Rattle.swift_lexer.specs.Bytes.{is_blank}
-use Rattle.swift_lexer.specs.Tokens.{IsToken, Reads, Outcome, after_token, IsLexedFrom, ends, reads, faults}
-use Rattle.swift_lexer.specs.Tiles.{bytes_of, IsTile, Chained, last_end, TokensTile}
+use Rattle.swift_lexer.specs.Tokens.{IsToken, Reads, Outcome, IsLexedFrom, ends, reads, faults}
+use Rattle.swift_lexer.specs.Tiles.{IsTile, Chained, last_end}
 use Rattle.swift_lexer.specs.Laws.{TokensOfATextTile}
 use Rattle.swift_lexer.proofs.Reading.{token_length}
 

@@ -1,5 +1,6 @@
 -- The equations of trees and forests.
-use Rattle.std.proofs.Common.{◌≡◌, ℕ, ◌≤◌, max, List, [], ◌∷◌, ◌++◌, map, sym, refl, ap, arith, ◌∙◌, append_assoc, append-nil}
+use Rattle.std.proofs.Common.{◌≡◌, ◌+◌, ◌<◌, length, get_or, drop, ℕ, List, sym, ap, ◌∙◌}
+use Rattle.std.proofs.lemmas.List.{at_drop_more, drop_all}
 use Rattle.std.specs.declared.vec.Vec.{Vec}
 use Rattle.std.specs.declared.alloc.Global.{Global}
 use Rattle.swift_lexer.specs.declared.token.Token.{Token}
@@ -8,7 +9,7 @@ use Rattle.swift_lexer.specs.declared.element.Element.TheOpen.{Element-F}
 use Rattle.swift_lexer.specs.declared.element.Element.TheOpen as one_level
 use Rattle.swift_lexer.specs.declared.element.Element.TheVariants.{Leaf, Nest, rolls-Leaf, rolls-Nest}
 use Rattle.swift_lexer.specs.declared.element.Element.TheFolds.{fold-roll-Element}
-use Rattle.swift_lexer.specs.Trees.{Tree, leaf, nest, Forest, none, cons, tree_tokens, forest_tokens, tree_depth, forest_depth, IsMatched, AreMatched, forest_from, forest_of, tree_step, tree_of}
+use Rattle.swift_lexer.specs.Trees.{Tree, leaf, nest, cons, forest_of, tree_step, tree_of}
 
 pub tree_of-leaf : (token : Token) → tree_of (Leaf token) ≡ leaf token
 unfolding tree_of
@@ -17,3 +18,11 @@ tree_of-leaf token = ap tree_of (sym (rolls-Leaf token)) ∙ fold-roll-Element T
 pub tree_of-nest : (left : Token) (inner : Vec Element Global) (right : Token) → tree_of (Nest left inner right) ≡ nest left (forest_of inner.items) right
 unfolding tree_of
 tree_of-nest left inner right = ap tree_of (sym (rolls-Nest left inner right)) ∙ fold-roll-Element Tree tree_step (one_level.Nest left inner right)
+
+-- the element at an index is the first tree of what stands from there on
+pub forest_of-drop : (elements : List Element) (i : ℕ) (element : Element) → i < length elements → element ≡ get_or elements i element → forest_of (drop i elements) ≡ cons (tree_of element) (forest_of (drop (i + 1) elements))
+forest_of-drop elements i element within is =
+    at_drop_more forest_of elements i element within ∙ ap (λ first. cons (tree_of first) (forest_of (drop (i + 1) elements))) (sym is)
+
+-- for a walk over elements: what stands for the element at hand, and what is left behind it
+pub ruleset walks = (forest_of-drop, tree_of-leaf, tree_of-nest, drop_all)

@@ -1,8 +1,7 @@
 -- What the functions that look for a token at the front of a text find: this project's own words.
-use Rattle.std.specs.Prelude.{◌≡◌, ℕ, ◌<◌, ◌≤◌, List, [], ◌∷◌, ◌++◌, length, take, drop, true, false}
-use Rattle.swift_lexer.specs.Tokens.{IsWord, ClosesString, GoesOn, MayFollow, IsFront}
+use Rattle.std.specs.Prelude.{◌≡◌, ℕ, ◌≤◌, List, ◌∷◌, ◌++◌, length, take, drop}
+use Rattle.swift_lexer.specs.Tokens.{GoesOn, MayFollow, IsFront}
 use Rattle.swift_lexer.specs.declared.token.Class.{Class}
-use Rattle.swift_lexer.specs.declared.token.Class.TheVariants.{Pound, Str}
 
 -- behind a token's first byte the token goes on for the first n bytes
 pub record IsBody (class : Class) (text : List ℕ) (n : ℕ) : Type 0 where

@@ -1,11 +1,11 @@
 -- The bracket groups of a text's tokens: this project's own, after the brackets of Swift.
-use Rattle.std.specs.Prelude.{◌≡◌, ℕ, suc, ◌+◌, ◌≤◌, List, [], ◌∷◌, ◌++◌, length, map, Result, Ok, Err, false}
+use Rattle.std.specs.Prelude.{◌≡◌, ℕ, suc, ◌+◌, ◌≤◌, List, [], ◌∷◌, ◌++◌, length, Result, Ok, Err, false}
 use Rattle.swift_lexer.specs.Trees.{Forest, forest_tokens, forest_depth, AreMatched, closes}
 use Rattle.swift_lexer.specs.declared.token.Class.TheVariants.{LeftBracket, RightBracket}
 use Rattle.swift_lexer.specs.declared.token.Token.{Token}
 use Rattle.swift_lexer.specs.declared.element.GroupFault.{GroupFault}
 use Rattle.swift_lexer.specs.declared.element.GroupKind.TheVariants.{Unopened, Unclosed, Mismatched, TooDeep}
-use Rattle.swift_lexer.specs.declared.bytes.TheConstants.{DEEPEST}
+use Rattle.swift_lexer.specs.declared.element.TheConstants.{DEEPEST}
 
 -- a left bracket that is still open, and what stands before it on its level
 pub record Level : Type 0 where

@@ -1,7 +1,7 @@
 -- What the state of grouping stands for: this project's own.
-use Rattle.std.specs.Prelude.{◌≡◌, ℕ, List, ◌∷◌, map, Result, Ok, Err, MatchResult}
+use Rattle.std.specs.Prelude.{ℕ, List, ◌∷◌, map, Result, Ok, Err}
 use Rattle.swift_lexer.specs.Answers.{Refuses}
-use Rattle.swift_lexer.specs.Trees.{Forest, forest_of}
+use Rattle.swift_lexer.specs.Trees.{forest_of}
 use Rattle.swift_lexer.specs.Groups.{Level, Reaches, GroupOutcome, IsGrouped}
 use Rattle.swift_lexer.specs.declared.token.Token.{Token}
 use Rattle.swift_lexer.specs.declared.refusal.Refusal.{Refusal}

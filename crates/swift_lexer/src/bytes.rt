@@ -33,8 +33,6 @@ pub const BACKSLASH: u8 = b'\\';
 pub const POUND: u8 = b'#';
 
 pub const AT: u8 = b'@';
-/// How deep brackets may be nested.
-pub const DEEPEST: usize = 200;
 
 pub fn is_blank(byte: u8) -> bool
     ensures { result ≡ is_blank byte }

@@ -2,6 +2,9 @@
 
 use crate::token::Token;
 
+/// How deep brackets may be nested.
+pub const DEEPEST: usize = 200;
+
 /// A token outside brackets of its level, or a bracketed group.
 #[derive(Drop, Debug)]
 pub enum Element {

@@ -10,8 +10,8 @@ ghost use Rattle.swift_lexer.specs.declared.refusal.Refusal.TheVariants.{Fault};
 ghost use Rattle.swift_lexer.specs.declared.token.Token.{Token};
 ghost use Rattle.swift_lexer.specs.declared.token.Class.TheVariants.{LeftBracket, RightBracket};
 
-use crate::bytes::{DEEPEST, is_bracket_pair};
-use crate::element::{Element, GroupFault, GroupKind};
+use crate::bytes::is_bracket_pair;
+use crate::element::{DEEPEST, Element, GroupFault, GroupKind};
 use crate::refusal::Refusal;
 use crate::token::{Class, Token};
 use std::alloc::Global;

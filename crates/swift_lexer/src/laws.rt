@@ -1,6 +1,6 @@
 // Laws of the definitions: a call of each brings it in as a fact.
 
-ghost use Rattle.swift_lexer.specs.Laws.{GroupsHoldTheTokens, OneGroupOutcome, OneTokenOutcome, TokensOfATextTile};
+ghost use Rattle.swift_lexer.specs.Laws.{GroupsHoldTheTokens, OneGroupOutcome, OneTokenOutcome, TokenBytes, TokensOfATextTile};
 
 /// A text is either accepted with one list of tokens or refused with one fault.
 pub fn one_token_outcome()
@@ -10,6 +10,11 @@ pub fn one_token_outcome()
 /// Tokens and trivia, joined, are the text.
 pub fn tokens_tile()
     ensures { TokensOfATextTile }
+{}
+
+/// A token has a byte, its first byte decides its class, and a word has word characters alone.
+pub fn token_bytes()
+    ensures { TokenBytes }
 {}
 
 /// The tokens of a text are grouped in one way or refused with one fault.

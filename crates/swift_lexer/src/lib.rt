@@ -12,9 +12,11 @@ mod lexing;
 mod refusal;
 mod token;
 
-pub use element::{Element, GroupFault, GroupKind};
+pub use element::{DEEPEST, Element, GroupFault, GroupKind};
 pub use grouping::group;
-pub use laws::{groups_hold_the_tokens, one_group_outcome, one_token_outcome, tokens_tile};
+pub use laws::{
+    groups_hold_the_tokens, one_group_outcome, one_token_outcome, token_bytes, tokens_tile,
+};
 pub use lexing::{LONGEST_TEXT, lex};
 pub use refusal::Refusal;
 pub use token::{Class, LexFault, LexKind, Token};

@@ -1,6 +1,4 @@
-use Rattle.std.proofs.Common.{ap}
-use Rattle.plugin_frames.specs.Cutting.{payloads_of}
-use Rattle.plugin_frames.proofs.Cuts.{IsCut-none, IsCut-more, IsCut-rest, IsCut-length}
+use Rattle.plugin_frames.proofs.Cuts.{IsCut-more, IsCut-rest, IsCut-length}
 use Rattle.plugin_frames.proofs.cutting.cut.Goals as goal
 
 pub frames-preserved : goal.frames-preserved

@@ -1,4 +1,4 @@
-use Rattle.std.proofs.Common.{◌≡◌, length, sym, ap, ◌∙◌, arith}
+use Rattle.std.proofs.Common.{length, ap, arith}
 use Rattle.plugin_frames.proofs.Feedings.{IsBegun-of, begun_within, Appends-header, Appends-length, Appends-payload, Appends-frame}
 use Rattle.plugin_frames.proofs.reader.read_begun.Goals as goal
 

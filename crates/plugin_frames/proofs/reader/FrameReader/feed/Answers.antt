@@ -1,4 +1,4 @@
-use Rattle.std.proofs.Common.{◌≡◌, ℕ, sym, ap, ◌∙◌}
+use Rattle.std.proofs.Common.{◌≡◌, sym, ap, ◌∙◌}
 use Rattle.plugin_frames.specs.declared.refusal.FrameFault.TheVariants.{TooLong}
 use Rattle.plugin_frames.specs.Frames.{Rest}
 use Rattle.plugin_frames.specs.Holding.{tail_held}
