@@ -1,5 +1,7 @@
+pub mod Answer
 pub mod Command
 pub mod Elements
 pub mod Form
 pub mod Payload
+pub mod Site
 pub mod Source

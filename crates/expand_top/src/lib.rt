@@ -7,6 +7,9 @@ mod command;
 mod elements;
 mod form;
 mod line;
+mod outcome;
 mod payload;
+mod report;
+mod site;
 
 pub use command::{Command, Usage, words};
