@@ -1,3 +1,4 @@
 pub mod Payloads
 pub mod Marks
 pub mod Lines
+pub mod Links

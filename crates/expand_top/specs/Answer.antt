@@ -88,7 +88,8 @@ expression_in text (tree ∷ trees) =
 -- What of a reply's text is put in the place of the use.
 pub data IsSplice (reply : List ℕ) : Option (List ℕ) → Type 0 where
   too_long : 4194304 < length reply → IsSplice reply None
-  read : (elements : Option (List Tree)) → length reply ≤ 4194304 → HasElements reply elements → IsSplice reply (option_and_then (expression_in reply) elements)
+  read : (elements : Option (List Tree)) (splice : Option (List ℕ)) → length reply ≤ 4194304 → HasElements reply elements
+      → splice ≡ option_and_then (expression_in reply) elements → IsSplice reply splice
 
 -- the same of an outcome, which may have no reply
 abbrev pub IsSpliceOf : Option Outcome → Option (List ℕ) → Type 0
@@ -110,14 +111,20 @@ outcome_output name text macro_use declaration (Some outcome.NoReply) splice =
     refuses_at name text macro_use.span.start (no_reply (text_at text declaration.module_name))
 outcome_output name text macro_use declaration (Some (outcome.Reply reply)) splice = reply_output name text macro_use splice
 
--- what is written for a source, by what stands at its use, the outcome of what was asked, and its text
-unfoldable pub site_output : List ℕ → List ℕ → Site → Option Outcome → Option (List ℕ) → Output
-site_output name text site.Nothing outcome splice = prints text
-site_output name text (site.Unknown macro_use) outcome splice =
-    refuses_at name text macro_use.span.start (no_macro (text_at text macro_use.name))
-site_output name text (site.NoPlugin macro_use declaration) outcome splice =
+abbrev pub unknown_output : List ℕ → List ℕ → MacroUse → Output
+unknown_output name text macro_use = refuses_at name text macro_use.span.start (no_macro (text_at text macro_use.name))
+
+abbrev pub no_plugin_output : List ℕ → List ℕ → MacroUse → Declaration → Output
+no_plugin_output name text macro_use declaration =
     refuses_at name text macro_use.span.start (no_plugin (text_at text declaration.module_name))
-site_output name text (site.Asks macro_use declaration) outcome splice = outcome_output name text macro_use declaration outcome splice
+
+-- what is written for a source, by what stands at its use and the outcome of what was asked there
+abbrev pub IsSiteOutput : List ℕ → List ℕ → Site → Option Outcome → Output → Type 0
+IsSiteOutput name text site.Nothing outcome output = output ≡ prints text
+IsSiteOutput name text (site.Unknown macro_use) outcome output = output ≡ unknown_output name text macro_use
+IsSiteOutput name text (site.NoPlugin macro_use declaration) outcome output = output ≡ no_plugin_output name text macro_use declaration
+IsSiteOutput name text (site.Asks macro_use declaration) outcome output =
+    (splice : Option (List ℕ)) × IsSpliceOf outcome splice × (output ≡ outcome_output name text macro_use declaration outcome splice)
 
 -- the code's output, apart from where it lies in memory
 abbrev pub output_seen : code.Output → Output

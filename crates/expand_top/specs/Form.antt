@@ -128,7 +128,8 @@ use_by text (Some pound) (Some group) =
     if is_pound pound.class && not (is_builtin (slice_range text (place_behind pound.start) pound.end)) && (pound.end == group.start)
     then Some (line.Uses (record {
       span = record { start = pound.start; end = group.end };
-      name = record { start = place_behind pound.start; end = pound.end } }))
+      name = record { start = place_behind pound.start; end = pound.end };
+    }))
     else None
 use_by text pound group = None
 

@@ -41,7 +41,10 @@ pub fn behind<T>(items: &[T], n: usize) -> &[T]
 pub fn part(text: &[u8], start: u32, end: u32) -> &[u8]
     ensures { result.now ≡ slice_range text.now start end }
 {
-    front(behind(text, start as usize), end.saturating_sub(start) as usize)
+    front(
+        behind(text, start as usize),
+        end.saturating_sub(start) as usize,
+    )
 }
 
 pub fn spells(text: &[u8], token: Token, word: &[u8]) -> bool
@@ -149,7 +152,11 @@ pub fn spans_lines(text: &[u8], element: &Element) -> bool
 {
     match shape_of(element) {
         Shape::Leaf(_) => false,
-        Shape::Nest { left: _, inner, right } => holds_line_feed(text, inner, right),
+        Shape::Nest {
+            left: _,
+            inner,
+            right,
+        } => holds_line_feed(text, inner, right),
     }
 }
 
@@ -195,12 +202,7 @@ fn round_of<'a>(text: &[u8], element: &'a Element) -> Option<Round<'a>>
     }
 }
 
-fn round_from<'a>(
-    text: &[u8],
-    left: Token,
-    inner: &'a [Element],
-    right: Token,
-) -> Option<Round<'a>>
+fn round_from<'a>(text: &[u8], left: Token, inner: &'a [Element], right: Token) -> Option<Round<'a>>
     ensures { option_map round_seen result ≡ round_of text.now (nest left (forest_of inner.now) right) }
 {
     if !spells(text, left, b"(") {

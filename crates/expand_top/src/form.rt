@@ -46,7 +46,11 @@ fn split_line<'a>(text: &[u8], elements: &'a [Element]) -> (&'a [Element], &'a [
     elements.split_at(following(text, others) + 1)
 }
 
-fn lines_of(alloc: Global, text: &[u8], elements: &[Element]) -> Result<Option<Vec<Line>>, AllocError>
+fn lines_of(
+    alloc: Global,
+    text: &[u8],
+    elements: &[Element],
+) -> Result<Option<Vec<Line>>, AllocError>
     ensures { IfOk result (λ lines. option_map (λ v. v.items) lines ≡ lines_of text.now (map tree_of elements.now)) }
 {
     let mut lines = Vec::new(alloc);
@@ -62,7 +66,7 @@ fn lines_of(alloc: Global, text: &[u8], elements: &[Element]) -> Result<Option<V
     Ok(Some(lines))
 }
 
-fn elements_of(alloc: Global, text: &[u8]) -> Result<Option<Vec<Element>>, AllocError>
+pub fn elements_of(alloc: Global, text: &[u8]) -> Result<Option<Vec<Element>>, AllocError>
     requires { length text.now ≤ LONGEST_TEXT }
     ensures { IfOk result (λ elements. HasElements text.now (option_map (λ v. map tree_of v.items) elements)) }
 {

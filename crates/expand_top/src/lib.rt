@@ -3,13 +3,16 @@
 //! What these really are is left to the caller's implementations of the traits of `swift_base`.
 #![tactic(auto)]
 
+mod answer;
 mod command;
 mod elements;
 mod form;
 mod line;
+mod link;
 mod outcome;
 mod payload;
 mod report;
 mod site;
+mod splice;
 
 pub use command::{Command, Usage, words};

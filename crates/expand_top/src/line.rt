@@ -6,7 +6,9 @@ ghost use Rattle.swift_lexer.specs.Trees.{tree_of};
 ghost use Rattle.expand_top.specs.Elements.{round_seen, round_at, leaf_at, spells_at};
 ghost use Rattle.expand_top.specs.Form.{is_word, is_string, is_number, is_pound, joins, is_builtin, any_marked, has_class_at, quoted_at, word_at, names_external, says_expression, begins_declaration, ends_declaration, is_declaration, declared, declaration_by, declaration_line, is_plain_token, is_plain_value, use_by, value_line, begins_binding, line_of};
 
-use crate::elements::{Mark, Round, behind, front, leaf_at, part, round_at, row_is_marked, spells, spells_at};
+use crate::elements::{
+    Mark, Round, behind, front, leaf_at, part, round_at, row_is_marked, spells, spells_at,
+};
 use swift_base::Span;
 use swift_lexer::{Class, Element, Token};
 
@@ -15,10 +17,30 @@ pub const JOINING_WORDS: [&[u8]; 6] = [b"try", b"await", b"as", b"is", b"in", b"
 
 /// Pound words that the language has built in, so that none of them is a macro.
 pub const BUILTIN_WORDS: [&[u8]; 24] = [
-    b"file", b"fileID", b"filePath", b"line", b"column", b"function", b"dsohandle", b"selector",
-    b"keyPath", b"available", b"unavailable", b"_hasSymbol", b"if", b"elseif", b"else", b"endif",
-    b"sourceLocation", b"warning", b"error", b"colorLiteral", b"imageLiteral", b"fileLiteral",
-    b"externalMacro", b"isolation",
+    b"file",
+    b"fileID",
+    b"filePath",
+    b"line",
+    b"column",
+    b"function",
+    b"dsohandle",
+    b"selector",
+    b"keyPath",
+    b"available",
+    b"unavailable",
+    b"_hasSymbol",
+    b"if",
+    b"elseif",
+    b"else",
+    b"endif",
+    b"sourceLocation",
+    b"warning",
+    b"error",
+    b"colorLiteral",
+    b"imageLiteral",
+    b"fileLiteral",
+    b"externalMacro",
+    b"isolation",
 ];
 
 /// An expression macro by the places of its name, of its module and of its type in the source.
@@ -241,7 +263,10 @@ fn use_by(text: &[u8], pound: Option<Token>, group: Option<Round<'_>>) -> Option
         start: pound.start.saturating_add(1),
         end: pound.end,
     };
-    if !is_pound(pound.class) || is_builtin(part(text, name.start, name.end)) || pound.end != group.start {
+    if !is_pound(pound.class)
+        || is_builtin(part(text, name.start, name.end))
+        || pound.end != group.start
+    {
         return None;
     }
     let span = Span {

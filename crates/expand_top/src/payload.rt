@@ -163,7 +163,11 @@ fn result_text(of: &Value) -> Option<&str>
 {
     let text = of.get("expandedSource")?.as_str()?;
     let diagnostics = of.get("diagnostics")?.as_array()?;
-    if is_empty(diagnostics) { Some(text) } else { None }
+    if is_empty(diagnostics) {
+        Some(text)
+    } else {
+        None
+    }
 }
 
 fn reply_text_in(value: &Value) -> Option<&str>

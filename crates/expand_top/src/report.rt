@@ -40,7 +40,13 @@ fn put_number(alloc: Global, to: &mut Vec<u8>, number: u32) -> Result<(), AllocE
     Ok(())
 }
 
-fn error_line(alloc: Global, name: &[u8], line: u32, column: u32, text: &[u8]) -> Result<Vec<u8>, AllocError>
+fn error_line(
+    alloc: Global,
+    name: &[u8],
+    line: u32,
+    column: u32,
+    text: &[u8],
+) -> Result<Vec<u8>, AllocError>
     ensures { IfOk result (λ v. v.items ≡ error_line name.now line column text.now) }
 {
     let mut bytes = plain(alloc, name)?;
@@ -64,7 +70,13 @@ pub fn prints(alloc: Global, out: Vec<u8>) -> Output
     }
 }
 
-pub fn refuses(alloc: Global, name: &[u8], line: u32, column: u32, text: &[u8]) -> Result<Output, AllocError>
+pub fn refuses(
+    alloc: Global,
+    name: &[u8],
+    line: u32,
+    column: u32,
+    text: &[u8],
+) -> Result<Output, AllocError>
     ensures { IfOk result (λ output. output_seen output ≡ refuses name.now line column text.now) }
 {
     let err = error_line(alloc, name, line, column, text)?;
@@ -76,7 +88,13 @@ pub fn refuses(alloc: Global, name: &[u8], line: u32, column: u32, text: &[u8]) 
 }
 
 /// The refusal at an offset of the source.
-pub fn refuses_at(alloc: Global, name: &[u8], source: &[u8], at: u32, text: &[u8]) -> Result<Output, AllocError>
+pub fn refuses_at(
+    alloc: Global,
+    name: &[u8],
+    source: &[u8],
+    at: u32,
+    text: &[u8],
+) -> Result<Output, AllocError>
     requires { length source.now < 2 ^ 32 - 1 }
     ensures { IfOk result (λ output. output_seen output ≡ refuses_at name.now source.now at text.now) }
 {
@@ -85,7 +103,12 @@ pub fn refuses_at(alloc: Global, name: &[u8], source: &[u8], at: u32, text: &[u8
 }
 
 /// A name in quotes between two texts.
-pub fn quoting(alloc: Global, before: &[u8], name: &[u8], behind: &[u8]) -> Result<Vec<u8>, AllocError>
+pub fn quoting(
+    alloc: Global,
+    before: &[u8],
+    name: &[u8],
+    behind: &[u8],
+) -> Result<Vec<u8>, AllocError>
     ensures { IfOk result (λ v. v.items ≡ before.now ++ (name.now ++ behind.now)) }
 {
     let mut text = Vec::from_slice(alloc, before)?;

@@ -1,0 +1,157 @@
+// What is written for a source.
+ghost use Rattle.std.specs.Prelude.{◌≡◌, ◌<◌, ◌-◌, ◌^◌, IfOk, length, option_map};
+ghost use Rattle.expand_top.specs.Answer.{reply_output, outcome_output, unknown_output, no_plugin_output, IsSiteOutput, output_seen, refuses_at, no_reply, IsSplice, IsSpliceOf};
+ghost use Rattle.expand_top.specs.Form.{text_at};
+
+use crate::elements::part;
+use crate::line::{Declaration, MacroUse};
+use crate::outcome::Outcome;
+use crate::report::{Output, prints, quoting, refuses, refuses_at};
+use crate::site::Site;
+use crate::splice::{expanded, splice_of};
+use std::alloc::{AllocError, Global};
+use swift_base::Text;
+
+pub const NOT_BUILT: &[u8] = b"this form is not built yet";
+
+const TOO_MANY_BYTES: &[u8] = b"the plug-ins sent more than 67108864 bytes";
+
+fn reply_output(
+    alloc: Global,
+    name: &[u8],
+    text: &[u8],
+    macro_use: MacroUse,
+    splice: Option<Vec<u8>>,
+) -> Result<Output, AllocError>
+    requires { length text.now < 2 ^ 32 - 1 }
+    ensures { IfOk result (λ output. output_seen output ≡ reply_output name.now text.now macro_use (option_map (λ v. v.items) splice)) }
+{
+    match splice {
+        Some(splice) => Ok(prints(alloc, expanded(alloc, text, macro_use, &splice)?)),
+        None => refuses_at(alloc, name, text, macro_use.span.start, NOT_BUILT),
+    }
+}
+
+fn no_reply_output(
+    alloc: Global,
+    name: &[u8],
+    text: &[u8],
+    macro_use: MacroUse,
+    declaration: Declaration,
+) -> Result<Output, AllocError>
+    requires { length text.now < 2 ^ 32 - 1 }
+    ensures { IfOk result (λ output. output_seen output
+        ≡ refuses_at name.now text.now macro_use.span.start (no_reply (text_at text.now declaration.module_name))) }
+{
+    let module = part(
+        text,
+        declaration.module_name.start,
+        declaration.module_name.end,
+    );
+    let message = quoting(alloc, b"plug-in '", module, b"' gave no reply")?;
+    let output = refuses_at(alloc, name, text, macro_use.span.start, &message)?;
+    Ok(output)
+}
+
+// The outcome's output, and what of its reply was put in.
+fn outcome_output(
+    alloc: Global,
+    name: &[u8],
+    text: &[u8],
+    macro_use: MacroUse,
+    declaration: Declaration,
+    outcome: Option<Outcome>,
+) -> Result<Output, AllocError>
+    requires { length text.now < 2 ^ 32 - 1 }
+    ensures { IfOk result (λ output. (splice : _) × IsSpliceOf outcome splice
+        × (output_seen output ≡ outcome_output name.now text.now macro_use declaration outcome splice)) }
+{
+    match outcome {
+        None => refuses(alloc, name, 1, 1, TOO_MANY_BYTES),
+        Some(Outcome::NoReply) => no_reply_output(alloc, name, text, macro_use, declaration),
+        Some(Outcome::Reply(reply)) => answered_output(alloc, name, text, macro_use, &reply),
+    }
+}
+
+fn answered_output(
+    alloc: Global,
+    name: &[u8],
+    text: &[u8],
+    macro_use: MacroUse,
+    reply: &Text,
+) -> Result<Output, AllocError>
+    requires { length text.now < 2 ^ 32 - 1 }
+    ensures { IfOk result (λ output. (splice : _) × IsSplice reply.now splice
+        × (output_seen output ≡ reply_output name.now text.now macro_use splice)) }
+{
+    let splice = splice_of(alloc, reply.bytes())?;
+    let output = reply_output(alloc, name, text, macro_use, splice)?;
+    Ok(output)
+}
+
+fn unknown_output(
+    alloc: Global,
+    name: &[u8],
+    text: &[u8],
+    macro_use: MacroUse,
+) -> Result<Output, AllocError>
+    requires { length text.now < 2 ^ 32 - 1 }
+    ensures { IfOk result (λ output. output_seen output ≡ unknown_output name.now text.now macro_use) }
+{
+    let macro_name = part(text, macro_use.name.start, macro_use.name.end);
+    let message = quoting(alloc, b"no macro named '", macro_name, b"'")?;
+    let output = refuses_at(alloc, name, text, macro_use.span.start, &message)?;
+    Ok(output)
+}
+
+fn no_plugin_output(
+    alloc: Global,
+    name: &[u8],
+    text: &[u8],
+    macro_use: MacroUse,
+    declaration: Declaration,
+) -> Result<Output, AllocError>
+    requires { length text.now < 2 ^ 32 - 1 }
+    ensures { IfOk result (λ output. output_seen output ≡ no_plugin_output name.now text.now macro_use declaration) }
+{
+    let module = part(
+        text,
+        declaration.module_name.start,
+        declaration.module_name.end,
+    );
+    let message = quoting(alloc, b"no plug-in for module '", module, b"'")?;
+    let output = refuses_at(alloc, name, text, macro_use.span.start, &message)?;
+    Ok(output)
+}
+
+/// What is written for a source, by what stands at its use and the outcome of what was asked there.
+pub fn site_output(
+    alloc: Global,
+    name: &[u8],
+    text: Vec<u8>,
+    site: Site,
+    outcome: Option<Outcome>,
+) -> Result<Output, AllocError>
+    requires { length text.items < 2 ^ 32 - 1 }
+    ensures { IfOk result (λ output. IsSiteOutput name.now text.items site outcome (output_seen output)) }
+{
+    match site {
+        Site::Nothing => Ok(prints(alloc, text)),
+        Site::Unknown(macro_use) => unknown_output(alloc, name, &text, macro_use),
+        Site::NoPlugin(macro_use, declaration) => no_plugin_output(
+            alloc,
+            name,
+            &text,
+            macro_use,
+            declaration,
+        ),
+        Site::Asks(macro_use, declaration) => outcome_output(
+            alloc,
+            name,
+            &text,
+            macro_use,
+            declaration,
+            outcome,
+        ),
+    }
+}
