@@ -19,7 +19,14 @@ StopHasCause reader count stop.Ended = (0 < reader.ends) × (count ≤ MOST_BYTE
 StopHasCause reader count stop.Failed = (0 < reader.faults) × (count ≤ MOST_BYTES)
 StopHasCause reader count stop.Overrun = MOST_BYTES < count
 
--- What a process was given: all of it, or a proper front where the write failed; and then its input was closed.
+-- What a process was given: all of it, or a proper front where the write failed.
+pub record IsGiven (sent : List ℕ) (write_failed : Bool) (writer : SinkSeen) : Type 0 where
+  pub whole : write_failed ≡ false → Tells writer.held (λ held. held ≡ sent)
+  pub front : write_failed ≡ true → Tells writer.held (λ held. (n : ℕ) × (n < length sent) × (held ≡ take n sent))
+  pub cause : write_failed ≡ true → 0 < writer.faults
+  pub open_still : Tells writer.closing (λ closing. closing ≡ None)
+
+-- The same, and then its input was closed.
 pub record IsWritten (sent : List ℕ) (write_failed : Bool) (writer : SinkSeen) : Type 0 where
   pub whole : write_failed ≡ false → Tells writer.held (λ held. held ≡ sent)
   pub front : write_failed ≡ true → Tells writer.held (λ held. (n : ℕ) × (n < length sent) × (held ≡ take n sent))
@@ -30,37 +37,39 @@ abbrev pub reply_outcome : Option (List ℕ) → Outcome
 reply_outcome None = outcome.NoReply
 reply_outcome (Some text) = outcome.Reply text
 
--- the outcome where no payload stands in the reply's place: none where it may still have come
-abbrev pub missing_by : Stop → Option Outcome
-missing_by stop.Ended = Some outcome.NoReply
-missing_by stop.Failed = Some outcome.NoReply
-missing_by stop.Overrun = None
+-- a length above the limit stands where the next payload would
+abbrev pub is_length : Tail → Bool
+is_length (Rest rest) = false
+is_length (Length len) = true
 
-abbrev pub missing : Tail → Stop → Option Outcome
-missing (Rest rest) stop = missing_by stop
-missing (Length len) stop = Some outcome.NoReply
+-- the outcome where no payload stands in the reply's place: none where it may still have come
+abbrev pub missing_by : Bool → Stop → Option Outcome
+missing_by true stop = Some outcome.NoReply
+missing_by false stop.Ended = Some outcome.NoReply
+missing_by false stop.Failed = Some outcome.NoReply
+missing_by false stop.Overrun = None
 
 -- the outcome by the payloads behind the greeting's answer
-abbrev pub IsReplied : List (List ℕ) → Tail → Stop → Option Outcome → Type 0
-IsReplied [] tail stop o = o ≡ missing tail stop
-IsReplied (reply ∷ more) tail stop o =
+abbrev pub IsReplied : List (List ℕ) → Bool → Stop → Option Outcome → Type 0
+IsReplied [] too_long stop o = o ≡ missing_by too_long stop
+IsReplied (reply ∷ more) too_long stop o =
     (value : Option Data) × Spells reply value × (o ≡ Some (reply_outcome (option_and_then reply_text value)))
 
-abbrev pub IsGreeted : Bool → List (List ℕ) → Tail → Stop → Option Outcome → Type 0
-IsGreeted false payloads tail stop o = o ≡ Some outcome.NoReply
-IsGreeted true payloads tail stop o = IsReplied payloads tail stop o
+abbrev pub IsGreeted : Bool → List (List ℕ) → Bool → Stop → Option Outcome → Type 0
+IsGreeted false payloads too_long stop o = o ≡ Some outcome.NoReply
+IsGreeted true payloads too_long stop o = IsReplied payloads too_long stop o
 
 -- the outcome by all payloads: the first answers the greeting
-abbrev pub IsAnswered : List (List ℕ) → Tail → Stop → Option Outcome → Type 0
-IsAnswered [] tail stop o = o ≡ missing tail stop
-IsAnswered (greeting ∷ payloads) tail stop o =
-    (value : Option Data) × Spells greeting value × IsGreeted (option_map_or is_capability value false) payloads tail stop o
+abbrev pub IsAnswered : List (List ℕ) → Bool → Stop → Option Outcome → Type 0
+IsAnswered [] too_long stop o = o ≡ missing_by too_long stop
+IsAnswered (greeting ∷ payloads) too_long stop o =
+    (value : Option Data) × Spells greeting value × IsGreeted (option_map_or is_capability value false) payloads too_long stop o
 
 -- The outcome of a process's one request.
 abbrev pub IsLinkOutcome : Bool → List ℕ → Stop → Option Outcome → Type 0
 IsLinkOutcome true got stop o = o ≡ Some outcome.NoReply
 IsLinkOutcome false got stop o =
-    (payloads : List (List ℕ)) × (tail : Tail) × IsFrames got payloads tail × IsAnswered payloads tail stop o
+    (payloads : List (List ℕ)) × (tail : Tail) × IsFrames got payloads tail × IsAnswered payloads (is_length tail) stop o
 
 -- The reader gave these bytes more, where it tells what it has left.
 pub record Gains (before : SourceSeen) (old : List ℕ) (after : SourceSeen) (new : List ℕ) : Type 0 where

@@ -1,11 +1,15 @@
 // One process: what it is given, and what it gives.
-ghost use Rattle.std.specs.Prelude.{◌≡◌, ◌≤◌, ◌<◌, ◌++◌, ℕ, List, length, IfOk, true, false, None};
+ghost use Rattle.std.specs.Prelude.{◌≡◌, ◌≤◌, ◌<◌, ℕ, Bool, List, length, IfOk, None};
 ghost use Rattle.swift_base.specs.Told.{Tells, prepend};
-ghost use Rattle.swift_base.specs.Outside.{IsFreshWriter, IsFreshReader};
-ghost use Rattle.expand_top.specs.Link.{StopHasCause, IsWritten, Gains};
+ghost use Rattle.swift_base.specs.Outside.{IsFreshWriter};
+ghost use Rattle.expand_top.specs.Link.{StopHasCause, IsGiven, IsWritten, Gains, is_length, missing_by, IsReplied, IsAnswered, IsLinkOutcome};
+ghost use Rattle.plugin_frames.specs.Frames.{Tail, IsFrames};
+ghost use Rattle.plugin_frames.specs.Cutting.{payloads_of};
 
 use crate::elements::behind;
-use plugin_frames::FrameReader;
+use crate::outcome::Outcome;
+use crate::payload::{answers_greeting, reply_text};
+use plugin_frames::{FrameReader, Refusal, frames_are_read};
 use std::alloc::{AllocError, Global};
 use swift_base::{Sink, Source, Text, write_all};
 use unique_names::Key;
@@ -78,7 +82,11 @@ fn read_to_stop<R: Source>(reader: &mut R, got: &mut Vec<u8>) -> Result<Stop, Al
 }
 
 // Reads until the greeting and the request are answered, or no answer can come; the stop, where it came.
-fn await_reply<R: Source>(alloc: Global, reader: &mut R, got: &mut Vec<u8>) -> Result<Option<Stop>, AllocError>
+fn await_reply<R: Source>(
+    alloc: Global,
+    reader: &mut R,
+    got: &mut Vec<u8>,
+) -> Result<Option<Stop>, AllocError>
     ensures cause { IfOk result (λ stop. Tells stop (StopHasCause (R.seen reader.new) (length got.new.items))) }
     ensures gains { IfOk result (λ _. Gains (R.seen reader.old) got.old.items (R.seen reader.new) got.new.items) }
 {
@@ -94,4 +102,165 @@ fn await_reply<R: Source>(alloc: Global, reader: &mut R, got: &mut Vec<u8>) -> R
         }
     }
     Ok(None)
+}
+
+/// What one process was given and gave.
+pub struct Spoken<W, R> {
+    pub got: Vec<u8>,
+    pub stop: Stop,
+    pub write_failed: bool,
+    pub writer: W,
+    pub reader: R,
+}
+
+// Writes all, and afterwards closes the writer once the answer is there; the early stop is one that came before.
+fn write_request<W: Sink>(writer: &mut W, sent: &[u8]) -> bool
+    requires { IsFreshWriter (W.seen writer.old) }
+    ensures { IsGiven sent.now result (W.seen writer.new) }
+{
+    match write_all(writer, sent) {
+        Ok(()) => false,
+        Err(_) => true,
+    }
+}
+
+fn close<W: Sink>(writer: &mut W)
+    ensures { (sent : List ℕ) (write_failed : Bool) → IsGiven sent write_failed (W.seen writer.old)
+        → IsWritten sent write_failed (W.seen writer.new) }
+{
+    match writer.write(&[]) {
+        Ok(_) => (),
+        Err(_) => (),
+    }
+}
+
+fn await_unless<R: Source>(
+    write_failed: bool,
+    alloc: Global,
+    reader: &mut R,
+    got: &mut Vec<u8>,
+) -> Result<Option<Stop>, AllocError>
+    ensures cause { IfOk result (λ stop. Tells stop (StopHasCause (R.seen reader.new) (length got.new.items))) }
+    ensures gains { IfOk result (λ _. Gains (R.seen reader.old) got.old.items (R.seen reader.new) got.new.items) }
+{
+    if write_failed {
+        return Ok(None);
+    }
+    await_reply(alloc, reader, got)
+}
+
+fn stop_after<R: Source>(
+    early: Option<Stop>,
+    reader: &mut R,
+    got: &mut Vec<u8>,
+) -> Result<Stop, AllocError>
+    requires { Tells early (StopHasCause (R.seen reader.old) (length got.old.items)) }
+    ensures cause { IfOk result (StopHasCause (R.seen reader.new) (length got.new.items)) }
+    ensures gains { IfOk result (λ _. Gains (R.seen reader.old) got.old.items (R.seen reader.new) got.new.items) }
+{
+    match early {
+        Some(stop) => Ok(stop),
+        None => read_to_stop(reader, got),
+    }
+}
+
+/// Writes the request, reads until its reply is there, closes the writer, and reads on to the stop.
+pub fn speak<W: Sink, R: Source>(
+    alloc: Global,
+    mut writer: W,
+    mut reader: R,
+    sent: &[u8],
+) -> Result<Spoken<W, R>, AllocError>
+    requires { IsFreshWriter (W.seen writer) }
+    ensures written { IfOk result (λ s. IsWritten sent.now s.write_failed (W.seen s.writer)) }
+    ensures stopped { IfOk result (λ s. StopHasCause (R.seen s.reader) (length s.got.items) s.stop) }
+    ensures given { IfOk result (λ s. (R.seen reader).left ≡ prepend s.got.items (R.seen s.reader).left) }
+{
+    let write_failed = write_request(&mut writer, sent);
+    let mut got = Vec::new(alloc);
+    let early = await_unless(write_failed, alloc, &mut reader, &mut got)?;
+    close(&mut writer);
+    let stop = stop_after(early, &mut reader, &mut got)?;
+    Ok(Spoken {
+        got,
+        stop,
+        write_failed,
+        writer,
+        reader,
+    })
+}
+
+fn payloads_of(alloc: Global, got: &[u8]) -> Result<(Vec<Vec<u8>>, bool), AllocError>
+    ensures { IfOk result (λ p. (tail : Tail) × IsFrames got.now (payloads_of p.0.items) tail × (p.1 ≡ is_length tail)) }
+{
+    frames_are_read();
+    let mut frames = FrameReader::new(alloc);
+    let mut payloads = Vec::new(alloc);
+    match frames.feed(got, &mut payloads) {
+        Ok(()) => Ok((payloads, false)),
+        Err(Refusal::Memory) => Err(AllocError),
+        Err(Refusal::Fault(_)) => Ok((payloads, true)),
+    }
+}
+
+fn missing(too_long: bool, stop: Stop) -> Option<Outcome>
+    ensures { result ≡ missing_by too_long stop }
+{
+    if too_long {
+        return Some(Outcome::NoReply);
+    }
+    match stop {
+        Stop::Ended | Stop::Failed => Some(Outcome::NoReply),
+        Stop::Overrun => None,
+    }
+}
+
+fn replied(
+    alloc: Global,
+    payloads: &[Vec<u8>],
+    too_long: bool,
+    stop: Stop,
+) -> Result<Option<Outcome>, AllocError>
+    ensures { IfOk result (IsReplied (payloads_of payloads.now) too_long stop) }
+{
+    let Some(payload) = payloads.first() else {
+        return Ok(missing(too_long, stop));
+    };
+    match reply_text(alloc, payload)? {
+        Some(text) => Ok(Some(Outcome::Reply(text))),
+        None => Ok(Some(Outcome::NoReply)),
+    }
+}
+
+fn answered(
+    alloc: Global,
+    payloads: &[Vec<u8>],
+    too_long: bool,
+    stop: Stop,
+) -> Result<Option<Outcome>, AllocError>
+    ensures { IfOk result (IsAnswered (payloads_of payloads.now) too_long stop) }
+{
+    let Some((greeting, others)) = payloads.split_first() else {
+        return Ok(missing(too_long, stop));
+    };
+    if !answers_greeting(alloc, greeting)? {
+        return Ok(Some(Outcome::NoReply));
+    }
+    replied(alloc, others, too_long, stop)
+}
+
+/// What became of a process's one request.
+pub fn outcome_of(
+    alloc: Global,
+    write_failed: bool,
+    got: &[u8],
+    stop: Stop,
+) -> Result<Option<Outcome>, AllocError>
+    ensures { IfOk result (IsLinkOutcome write_failed got.now stop) }
+{
+    if write_failed {
+        return Ok(Some(Outcome::NoReply));
+    }
+    let (payloads, too_long) = payloads_of(alloc, got)?;
+    answered(alloc, &payloads, too_long, stop)
 }

@@ -6,4 +6,4 @@ pub returns : goal.returns
 returns c =
     c.in_ok-output.ensures
     ∙ ap (refuses_at c.args.name.now c.args.text.now c.args.macro_use.span.start)
-      (c.deref.ensures.value ∙ c.in_ok-message.ensures ∙ ap (λ (name : List ℕ). codes "plug-in '" ++ (name ++ codes "' gave no reply")) c.part-module.ensures)
+    (c.deref.ensures.value ∙ c.in_ok-message.ensures ∙ ap (λ (name : List ℕ). codes "plug-in '" ++ (name ++ codes "' gave no reply")) c.part-module.ensures)

@@ -6,4 +6,4 @@ pub returns : goal.returns
 returns c =
     c.in_ok-output.ensures
     ∙ ap (refuses_at c.args.name.now c.args.text.now c.args.macro_use.span.start)
-      (c.deref.ensures.value ∙ c.in_ok-message.ensures ∙ ap (λ (name : List ℕ). codes "no macro named '" ++ (name ++ codes "'")) c.part-macro_name.ensures)
+    (c.deref.ensures.value ∙ c.in_ok-message.ensures ∙ ap (λ (name : List ℕ). codes "no macro named '" ++ (name ++ codes "'")) c.part-macro_name.ensures)

@@ -14,7 +14,7 @@ pub returns-in-Some-expression_in : goal.returns-in-Some-expression_in
 returns-in-Some-expression_in c =
     read (Some (map tree_of c.in-Some.elements.items)) _ c.if-reply-gt-LARGEST_REPLY.false (rw c.in-Some.is at c.in_ok-elements.ensures)
     (ap Some c.in_ok-from_slice-in-Some-expression_in.ensures.items ∙ c.in-Some-expression_in.ensures
-     ∙ ap (λ (row : List Element). expression_in c.args.reply.now (map tree_of row)) c.deref.ensures.value)
+    ∙ ap (λ (row : List Element). expression_in c.args.reply.now (map tree_of row)) c.deref.ensures.value)
 
 pub returns : goal.returns
 returns c =
