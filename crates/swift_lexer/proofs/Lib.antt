@@ -4,6 +4,7 @@ pub mod OneOutcome
 pub mod Reaching
 pub mod Reading
 pub mod Runs
+pub mod SomeOutcome
 pub mod Standing
 pub mod Tiling
 pub mod TokenBytes

@@ -15,6 +15,10 @@ use Rattle.swift_lexer.specs.declared.token.Token.{Token}
 abbrev pub OneTokenOutcome : Type 0
 OneTokenOutcome = (text : List ℕ) (one other : Outcome) → IsLexed text one → IsLexed text other → one ≡ other
 
+-- a text has an outcome
+abbrev pub SomeTokenOutcome : Type 0
+SomeTokenOutcome = (text : List ℕ) → (outcome : Outcome) × IsLexed text outcome
+
 -- the tokens of a text and their trivia tile it
 abbrev pub TokensOfATextTile : Type 0
 TokensOfATextTile = (text : List ℕ) (tokens : List Token) → IsLexed text (Ok tokens) → TokensTile text tokens

@@ -1,10 +1,15 @@
 // Laws of the definitions: a call of each brings it in as a fact.
 
-ghost use Rattle.swift_lexer.specs.Laws.{GroupsHoldTheTokens, OneGroupOutcome, OneTokenOutcome, TokenBytes, TokensOfATextTile};
+ghost use Rattle.swift_lexer.specs.Laws.{GroupsHoldTheTokens, OneGroupOutcome, OneTokenOutcome, SomeTokenOutcome, TokenBytes, TokensOfATextTile};
 
 /// A text is either accepted with one list of tokens or refused with one fault.
 pub fn one_token_outcome()
     ensures { OneTokenOutcome }
+{}
+
+/// A text is accepted or refused.
+pub fn some_token_outcome()
+    ensures { SomeTokenOutcome }
 {}
 
 /// Tokens and trivia, joined, are the text.
