@@ -2,3 +2,4 @@ pub mod Payloads
 pub mod Marks
 pub mod Lines
 pub mod Links
+pub mod Asking

@@ -4,5 +4,6 @@ pub mod Elements
 pub mod Form
 pub mod Link
 pub mod Payload
+pub mod Run
 pub mod Site
 pub mod Source

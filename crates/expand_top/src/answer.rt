@@ -128,30 +128,21 @@ fn no_plugin_output(
 pub fn site_output(
     alloc: Global,
     name: &[u8],
-    text: Vec<u8>,
+    text: &[u8],
     site: Site,
     outcome: Option<Outcome>,
 ) -> Result<Output, AllocError>
-    requires { length text.items < 2 ^ 32 - 1 }
-    ensures { IfOk result (λ output. IsSiteOutput name.now text.items site outcome (output_seen output)) }
+    requires { length text.now < 2 ^ 32 - 1 }
+    ensures { IfOk result (λ output. IsSiteOutput name.now text.now site outcome (output_seen output)) }
 {
     match site {
-        Site::Nothing => Ok(prints(alloc, text)),
-        Site::Unknown(macro_use) => unknown_output(alloc, name, &text, macro_use),
-        Site::NoPlugin(macro_use, declaration) => no_plugin_output(
-            alloc,
-            name,
-            &text,
-            macro_use,
-            declaration,
-        ),
-        Site::Asks(macro_use, declaration) => outcome_output(
-            alloc,
-            name,
-            &text,
-            macro_use,
-            declaration,
-            outcome,
-        ),
+        Site::Nothing => Ok(prints(alloc, Vec::from_slice(alloc, text)?)),
+        Site::Unknown(macro_use) => unknown_output(alloc, name, text, macro_use),
+        Site::NoPlugin(macro_use, declaration) => {
+            no_plugin_output(alloc, name, text, macro_use, declaration)
+        }
+        Site::Asks(macro_use, declaration) => {
+            outcome_output(alloc, name, text, macro_use, declaration, outcome)
+        }
     }
 }

@@ -1,11 +1,11 @@
 // The words of the command line.
-ghost use Rattle.std.specs.Prelude.{◌≡◌, ◌==◌, ◌∷◌, [], Some, None, IfOk, IfErr, map, position, string_bytes, option_map};
+ghost use Rattle.std.specs.Prelude.{◌≡◌, ◌==◌, ◌∷◌, [], Some, None, IfOk, position, string_bytes, option_map};
 ghost use Rattle.std.specs.List.{list_all};
-ghost use Rattle.swift_base.specs.Refusing.{IfFault};
-ghost use Rattle.expand_top.specs.Command.{command_of, plugin_of, plugins_of, begins_module, continues_module, is_module, is_plain, expands};
+ghost use Rattle.expand_top.specs.declared.command.Command.TheVariants.{Expand};
+ghost use Rattle.expand_top.specs.Command.{plugin_of, plugins_of, begins_module, continues_module, is_module, is_plain, expands};
 
 use std::alloc::{AllocError, Global};
-use swift_base::{Plugin, Plugins, Refusal, Text};
+use swift_base::{Plugin, Plugins, Text};
 
 /// What the words ask for.
 #[derive(Drop)]
@@ -13,10 +13,6 @@ pub enum Command {
     /// Expand the file `source` with the plug-ins of these modules.
     Expand { source: Text, plugins: Plugins },
 }
-
-/// The words are no command.
-#[derive(Clone, Copy, Debug, PartialEq, Eq)]
-pub struct Usage;
 
 fn is_module(word: &[u8]) -> bool
     ensures { result ≡ is_module word.now }
@@ -106,35 +102,21 @@ fn plugins_of(alloc: Global, word: Option<&String>) -> Result<Option<Plugins>, A
     }
 }
 
-/// The command that the words after the program's name mean: `expand SOURCE [MODULE=COMMAND]`.
-pub fn words(alloc: Global, words: &[String]) -> Result<Command, Refusal<Usage>>
-    ensures ok { IfOk result (λ command. command_of (map string_bytes words.now) ≡ Some command) }
-    ensures usage { IfErr result (λ refusal. IfFault refusal (λ _. command_of (map string_bytes words.now) ≡ None)) }
-{
-    match words {
-        [verb, source] => expansion(alloc, verb, source, None),
-        [verb, source, plugin] => expansion(alloc, verb, source, Some(plugin)),
-        _ => Err(Refusal::Fault(Usage)),
-    }
-}
-
-fn expansion(
+/// The plug-ins that the words `VERB SOURCE [MODULE=COMMAND]` name, where they are a command.
+pub fn named_plugins(
     alloc: Global,
     verb: &String,
     source: &String,
     plugin: Option<&String>,
-) -> Result<Command, Refusal<Usage>>
-    ensures ok { IfOk result (λ command. expands (string_bytes verb.now) (string_bytes source.now)
-        (plugins_of (option_map (λ w. string_bytes w.now) plugin.entry)) ≡ Some command) }
-    ensures usage { IfErr result (λ refusal. IfFault refusal (λ _. expands (string_bytes verb.now) (string_bytes source.now)
-        (plugins_of (option_map (λ w. string_bytes w.now) plugin.entry)) ≡ None)) }
+) -> Result<Option<Plugins>, AllocError>
+    ensures { IfOk result (λ plugins. expands (string_bytes verb.now) (string_bytes source.now)
+        (plugins_of (option_map (λ w. string_bytes w.now) plugin.entry)) ≡ option_map (Expand (string_bytes source.now)) plugins) }
 {
     let Some(plugins) = plugins_of(alloc, plugin)? else {
-        return Err(Refusal::Fault(Usage));
+        return Ok(None);
     };
     if verb.as_str() != "expand" || !is_plain(source.as_bytes()) {
-        return Err(Refusal::Fault(Usage));
+        return Ok(None);
     }
-    let source = Text::from_bytes(alloc, source.as_bytes())?;
-    Ok(Command::Expand { source, plugins })
+    Ok(Some(plugins))
 }

@@ -5,7 +5,9 @@
 
 mod answer;
 mod command;
+mod driver;
 mod elements;
+mod ended;
 mod form;
 mod line;
 mod link;
@@ -15,4 +17,7 @@ mod report;
 mod site;
 mod splice;
 
-pub use command::{Command, Usage, words};
+pub use command::Command;
+pub use driver::{LARGEST_SOURCE, run};
+pub use ended::{Ended, SourceRead};
+pub use link::{Closed, MOST_BYTES, Stop, Unstarted};

@@ -105,7 +105,8 @@ fn await_reply<R: Source>(
 }
 
 /// What one process was given and gave.
-pub struct Spoken<W, R> {
+#[derive(Drop)]
+pub struct Spoken<W: Drop, R: Drop> {
     pub got: Vec<u8>,
     pub stop: Stop,
     pub write_failed: bool,

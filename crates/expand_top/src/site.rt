@@ -96,7 +96,7 @@ pub fn key_of(alloc: Global, macro_use: MacroUse) -> Result<Key, AllocError>
     Ok(Key { steps })
 }
 
-fn copied(alloc: Global, text: &[u8], span: Span) -> Result<Text, AllocError>
+pub fn copied(alloc: Global, text: &[u8], span: Span) -> Result<Text, AllocError>
     ensures { IfOk result (λ copy. copy ≡ text_at text.now span) }
 {
     Text::from_bytes(alloc, text_at(text, span))

@@ -1,0 +1,473 @@
+// The top call.
+ghost use Rattle.std.specs.Prelude.{◌≡◌, ◌≢◌, ◌≤◌, ◌<◌, ◌^◌, ◌-◌, [], ◌∷◌, ◌++◌, ℕ, List, Option, Some, None, length, map, IfOk, IfSome, IfNone, OnOk, OnErr, string_bytes, option_map, codes};
+ghost use Rattle.swift_base.specs.Told.{Rose};
+ghost use Rattle.swift_base.specs.Outside.{IsFreshWriter};
+ghost use Rattle.swift_base.specs.declared.plugins.Plugin.{Plugin};
+ghost use Rattle.expand_top.specs.declared.command.Command.TheVariants as Command;
+ghost use Rattle.expand_top.specs.Command.{command_of, expands, plugins_of};
+ghost use Rattle.expand_top.specs.Run.{IsDelivered, GainsAll, GainsFront, ReadsSource, IsAsked, IsAskedAt, IsExpansionAt, IsExpansionOf, IsExpansion, NothingAsked, CanExpand, IsRefused, Expands, link_seen, unread, usage};
+ghost use Rattle.expand_top.specs.Answer.{output_seen, refuses, not_built, IsSiteOutput};
+ghost use Rattle.expand_top.specs.Source.{Form, form_seen, IsForm};
+
+use crate::answer::{NOT_BUILT, site_output};
+use crate::command::named_plugins;
+use crate::ended::{Ended, SourceRead};
+use crate::form::read_form;
+use crate::link::{Closed, Spoken, Unstarted, outcome_of, speak};
+use crate::outcome::Outcome;
+use crate::report::{Output, refuses};
+use crate::site::{Site, copied, key_of, request_of, sent_for, site_of};
+use std::alloc::{AllocError, Global};
+use swift_base::{
+    FileFault, Files, Plugins, Sink, Source, StartFault, Starter, Text, WriteFault, write_all,
+};
+use unique_names::Key;
+
+/// How many bytes a source may have.
+pub const LARGEST_SOURCE: u32 = 4_194_304;
+
+fn put<S: Sink>(sink: &mut S, bytes: &Vec<u8>) -> Result<(), WriteFault>
+    ensures all { OnOk result (GainsAll (S.seen sink.old) (S.seen sink.new) bytes.now.items) }
+    ensures front { OnErr result (GainsFront (S.seen sink.old) (S.seen sink.new) bytes.now.items) }
+{
+    match write_all(sink, bytes) {
+        Ok(()) => Ok(()),
+        Err(fault) => Err(fault),
+    }
+}
+
+fn deliver<O: Sink, E: Sink>(out: &mut O, err: &mut E, output: &Output) -> u8
+    ensures { IsDelivered (O.seen out.old) (O.seen out.new) (E.seen err.old) (E.seen err.new) (output_seen output.now) result }
+{
+    let Ok(()) = put(out, &output.out) else {
+        return 4;
+    };
+    let Ok(()) = put(err, &output.err) else {
+        return 4;
+    };
+    output.status
+}
+
+fn read_source<F: Files>(alloc: Global, files: &mut F, name: &str) -> Result<SourceRead, AllocError>
+    ensures { IfOk result (ReadsSource (F.seen files.old) (F.seen files.new) name.now) }
+{
+    match files.read(alloc, name, LARGEST_SOURCE) {
+        Ok(bytes) => Ok(SourceRead::Bytes(Text::from_vec(bytes))),
+        Err(FileFault::Failed) => Ok(SourceRead::Failed),
+        Err(FileFault::Larger) => Ok(SourceRead::Larger),
+        Err(FileFault::Memory) => Err(AllocError),
+    }
+}
+
+// What was asked, and what became of it.
+#[derive(Drop)]
+struct Asked<W: Drop, R: Drop> {
+    links: Vec<Closed<W, R>>,
+    unstarted: Vec<Unstarted>,
+    outcome: Option<Outcome>,
+}
+
+fn nothing_asked<W: Drop, R: Drop>(alloc: Global) -> Asked<W, R>
+    ensures links { result.links.items ≡ [] }
+    ensures unstarted { result.unstarted.items ≡ [] }
+{
+    Asked {
+        links: Vec::new(alloc),
+        unstarted: Vec::new(alloc),
+        outcome: None,
+    }
+}
+
+// One request: of a process that is started for it, or none where the start fails.
+fn ask<P: Starter>(
+    alloc: Global,
+    starter: &mut P,
+    command: &str,
+    key: Key,
+    module_name: Text,
+    sent: &[u8],
+) -> Result<Asked<P::Writer, P::Reader>, AllocError>
+    ensures { IfOk result (λ a. IsAsked key module_name sent.now
+        (map (link_seen P.Writer.seen P.Reader.seen) a.links.items) a.unstarted.items a.outcome) }
+{
+    let before = starter.faults();
+    match starter.start(alloc, command) {
+        Ok((writer, reader)) => ask_process(alloc, key, module_name, sent, writer, reader),
+        Err(StartFault::Memory) => Err(AllocError),
+        Err(StartFault::Failed) => {
+            let after = starter.faults();
+            let unstarted = one(alloc, Unstarted { key, before, after })?;
+            Ok(Asked {
+                links: Vec::new(alloc),
+                unstarted,
+                outcome: Some(Outcome::NoReply),
+            })
+        }
+    }
+}
+
+fn one<X: Drop>(alloc: Global, item: X) -> Result<Vec<X>, AllocError>
+    ensures { IfOk result (λ v. v.items ≡ item ∷ []) }
+{
+    let mut list = Vec::new(alloc);
+    list.push(item)?;
+    Ok(list)
+}
+
+fn ask_process<W: Sink, R: Source>(
+    alloc: Global,
+    key: Key,
+    module_name: Text,
+    sent: &[u8],
+    writer: W,
+    reader: R,
+) -> Result<Asked<W, R>, AllocError>
+    requires { IsFreshWriter (W.seen writer) }
+    ensures { IfOk result (λ a. IsAsked key module_name sent.now
+        (map (link_seen W.seen R.seen) a.links.items) a.unstarted.items a.outcome) }
+{
+    let asked = one(alloc, key)?;
+    let spoken = speak(alloc, writer, reader, sent)?;
+    let outcome = outcome_of(alloc, spoken.write_failed, &spoken.got, spoken.stop)?;
+    let links = one(alloc, closed(module_name, asked, spoken))?;
+    let unstarted = Vec::new(alloc);
+    Ok(Asked {
+        links,
+        unstarted,
+        outcome,
+    })
+}
+
+fn closed<W: Drop, R: Drop>(
+    module_name: Text,
+    asked: Vec<Key>,
+    spoken: Spoken<W, R>,
+) -> Closed<W, R>
+    ensures { result ≡ record {
+      module_name = module_name;
+      asked = asked;
+      got = spoken.got;
+      stop = spoken.stop;
+      write_failed = spoken.write_failed;
+      writer = spoken.writer;
+      reader = spoken.reader;
+    } }
+{
+    let Spoken {
+        got,
+        stop,
+        write_failed,
+        writer,
+        reader,
+    } = spoken;
+    Closed {
+        module_name,
+        asked,
+        got,
+        stop,
+        write_failed,
+        writer,
+        reader,
+    }
+}
+
+// What was asked at a site.
+fn ask_at<P: Starter>(
+    alloc: Global,
+    starter: &mut P,
+    command: &str,
+    name: &str,
+    text: &[u8],
+    site: Site,
+) -> Result<Asked<P::Writer, P::Reader>, AllocError>
+    requires { length text.now < 2 ^ 32 - 1 }
+    ensures { IfOk result (λ a. IsAskedAt name.now text.now site
+        (map (link_seen P.Writer.seen P.Reader.seen) a.links.items) a.unstarted.items a.outcome) }
+{
+    let Site::Asks(macro_use, declaration) = site else {
+        return Ok(nothing_asked(alloc));
+    };
+    let request = request_of(alloc, name.as_bytes(), text, macro_use, declaration)?;
+    let sent = sent_for(alloc, &request)?;
+    let key = key_of(alloc, macro_use)?;
+    let module_name = copied(alloc, text, declaration.module_name)?;
+    ask(alloc, starter, command, key, module_name, &sent)
+}
+
+// What is handed back and written.
+#[derive(Drop)]
+struct Expansion<W: Drop, R: Drop> {
+    links: Vec<Closed<W, R>>,
+    unstarted: Vec<Unstarted>,
+    output: Output,
+}
+
+fn without_asking<W: Drop, R: Drop>(alloc: Global, output: Output) -> Expansion<W, R>
+    ensures links { result.links.items ≡ [] }
+    ensures unstarted { result.unstarted.items ≡ [] }
+    ensures output { result.output ≡ output }
+{
+    Expansion {
+        links: Vec::new(alloc),
+        unstarted: Vec::new(alloc),
+        output,
+    }
+}
+
+fn not_built_yet(alloc: Global, name: &str) -> Result<Output, AllocError>
+    ensures { IfOk result (λ output. output_seen output ≡ refuses name.now 1 1 not_built) }
+{
+    refuses(alloc, name.as_bytes(), 1, 1, NOT_BUILT)
+}
+
+fn unread(alloc: Global, name: &str) -> Result<Output, AllocError>
+    ensures { IfOk result (λ output. output_seen output ≡ unread name.now) }
+{
+    let mut err = Vec::from_slice(alloc, name.as_bytes())?;
+    err.extend_from_slice(b": the file could not be read\n")?;
+    Ok(Output {
+        out: Vec::new(alloc),
+        err,
+        status: 3,
+    })
+}
+
+fn expand_site<P: Starter>(
+    alloc: Global,
+    starter: &mut P,
+    command: &str,
+    name: &str,
+    text: &[u8],
+    site: Site,
+) -> Result<Expansion<P::Writer, P::Reader>, AllocError>
+    requires { length text.now < 2 ^ 32 - 1 }
+    ensures { IfOk result (λ e. IsExpansionAt name.now text.now site
+        (map (link_seen P.Writer.seen P.Reader.seen) e.links.items) e.unstarted.items (output_seen e.output)) }
+{
+    let asked = ask_at(alloc, starter, command, name, text, site)?;
+    let output = site_output(alloc, name.as_bytes(), text, site, asked.outcome)?;
+    let (links, unstarted) = (asked.links, asked.unstarted);
+    Ok(Expansion {
+        links,
+        unstarted,
+        output,
+    })
+}
+
+// What a source's text asks for and what is written for it.
+fn expand_text<P: Starter>(
+    alloc: Global,
+    starter: &mut P,
+    command: &str,
+    name: &str,
+    plugins: &Plugins,
+    text: &[u8],
+) -> Result<Expansion<P::Writer, P::Reader>, AllocError>
+    requires { length text.now ≤ 4194304 }
+    ensures { IfOk result (λ e. (form : Option Form) × IsForm text.now form × IsExpansionOf name.now plugins.now text.now form
+        (map (link_seen P.Writer.seen P.Reader.seen) e.links.items) e.unstarted.items (output_seen e.output)) }
+{
+    let Some(form) = read_form(alloc, text)? else {
+        return Ok(without_asking(alloc, not_built_yet(alloc, name)?));
+    };
+    let site = site_of(text, plugins.list(), &form);
+    expand_site(alloc, starter, command, name, text, site)
+}
+
+// What is asked and written, by how the source was read.
+fn expand_read<P: Starter>(
+    alloc: Global,
+    starter: &mut P,
+    command: &str,
+    name: &str,
+    plugins: &Plugins,
+    read: &SourceRead,
+) -> Result<Expansion<P::Writer, P::Reader>, AllocError>
+    requires { CanExpand read.now }
+    ensures { IfOk result (λ e. IsExpansion name.now plugins.now read.now
+        (map (link_seen P.Writer.seen P.Reader.seen) e.links.items) e.unstarted.items (output_seen e.output)) }
+{
+    match read {
+        SourceRead::Nothing => unreachable!(),
+        SourceRead::Failed => Ok(without_asking(alloc, unread(alloc, name)?)),
+        SourceRead::Larger => Ok(without_asking(alloc, not_built_yet(alloc, name)?)),
+        SourceRead::Bytes(text) => {
+            expand_text(alloc, starter, command, name, plugins, text.bytes())
+        }
+    }
+}
+
+// A command as far as nothing is written yet.
+#[derive(Drop)]
+struct Done<W: Drop, R: Drop> {
+    read: SourceRead,
+    expansion: Expansion<W, R>,
+}
+
+fn expand<F: Files, P: Starter>(
+    alloc: Global,
+    name: &str,
+    command: &str,
+    plugins: &Plugins,
+    files: &mut F,
+    starter: &mut P,
+) -> Result<Done<P::Writer, P::Reader>, AllocError>
+    ensures read { IfOk result (λ d. ReadsSource (F.seen files.old) (F.seen files.new) name.now d.read) }
+    ensures expansion { IfOk result (λ d. IsExpansion name.now plugins.now d.read
+        (map (link_seen P.Writer.seen P.Reader.seen) d.expansion.links.items) d.expansion.unstarted.items (output_seen d.expansion.output)) }
+{
+    let read = read_source(alloc, files, name)?;
+    let expansion = expand_read(alloc, starter, command, name, plugins, &read)?;
+    Ok(Done { read, expansion })
+}
+
+fn command_word(plugin: Option<&String>) -> &str {
+    let Some(word) = plugin else {
+        return "";
+    };
+    match word.as_str().split_once('=') {
+        Some((_, command)) => command,
+        None => "",
+    }
+}
+
+fn usage(alloc: Global) -> Result<Output, AllocError>
+    ensures { IfOk result (λ output. output_seen output ≡ usage) }
+{
+    Ok(Output {
+        out: Vec::new(alloc),
+        err: Vec::from_slice(alloc, b"usage: expand SOURCE [MODULE=COMMAND]\n")?,
+        status: 2,
+    })
+}
+
+fn out_of_memory<W: Drop, R: Drop>(alloc: Global) -> Ended<W, R>
+    ensures status { result.status ≡ 5 }
+    ensures links { result.links.items ≡ [] }
+    ensures unstarted { result.unstarted.items ≡ [] }
+{
+    Ended {
+        status: 5,
+        read: SourceRead::Nothing,
+        links: Vec::new(alloc),
+        unstarted: Vec::new(alloc),
+    }
+}
+
+// Words that are no command: the usage text, and nothing is read or started.
+fn refuse<W: Drop, R: Drop, O: Sink, E: Sink>(
+    alloc: Global,
+    out: &mut O,
+    err: &mut E,
+) -> Ended<W, R>
+    ensures { IsRefused (O.seen out.old) (O.seen out.new) (E.seen err.old) (E.seen err.new) result.status result.links.items result.unstarted.items }
+{
+    let Ok(output) = usage(alloc) else {
+        return out_of_memory(alloc);
+    };
+    let status = deliver(out, err, &output);
+    Ended {
+        status,
+        read: SourceRead::Nothing,
+        links: Vec::new(alloc),
+        unstarted: Vec::new(alloc),
+    }
+}
+
+fn run_expand<F: Files, O: Sink, E: Sink, P: Starter>(
+    alloc: Global,
+    name: &str,
+    command: &str,
+    plugins: &Plugins,
+    files: &mut F,
+    out: &mut O,
+    err: &mut E,
+    starter: &mut P,
+) -> Ended<P::Writer, P::Reader>
+    ensures { (result.status ≡ 5 → ⊥) → Expands name.now plugins.now (F.seen files.old) (F.seen files.new)
+        (O.seen out.old) (O.seen out.new) (E.seen err.old) (E.seen err.new) result.status result.read
+        (map (link_seen P.Writer.seen P.Reader.seen) result.links.items) result.unstarted.items }
+{
+    let Ok(done) = expand(alloc, name, command, plugins, files, starter) else {
+        return out_of_memory(alloc);
+    };
+    let status = deliver(out, err, &done.expansion.output);
+    Ended {
+        status,
+        read: done.read,
+        links: done.expansion.links,
+        unstarted: done.expansion.unstarted,
+    }
+}
+
+fn run_words<F: Files, O: Sink, E: Sink, P: Starter>(
+    alloc: Global,
+    verb: &String,
+    source: &String,
+    plugin: Option<&String>,
+    files: &mut F,
+    out: &mut O,
+    err: &mut E,
+    starter: &mut P,
+) -> Ended<P::Writer, P::Reader>
+    ensures refused { expands (string_bytes verb.now) (string_bytes source.now) (plugins_of (option_map (λ w. string_bytes w.now) plugin.entry)) ≡ None
+        → IsRefused (O.seen out.old) (O.seen out.new) (E.seen err.old) (E.seen err.new) result.status result.links.items result.unstarted.items }
+    ensures untouched { expands (string_bytes verb.now) (string_bytes source.now) (plugins_of (option_map (λ w. string_bytes w.now) plugin.entry)) ≡ None
+        → (files.new ≡ files.old) × (starter.new ≡ starter.old) }
+    ensures expanded { (name : List ℕ) (plugins : List Plugin)
+        → expands (string_bytes verb.now) (string_bytes source.now) (plugins_of (option_map (λ w. string_bytes w.now) plugin.entry)) ≡ Some (Command.Expand name plugins)
+        → (result.status ≡ 5 → ⊥) → Expands name plugins (F.seen files.old) (F.seen files.new)
+        (O.seen out.old) (O.seen out.new) (E.seen err.old) (E.seen err.new) result.status result.read
+        (map (link_seen P.Writer.seen P.Reader.seen) result.links.items) result.unstarted.items }
+{
+    let Ok(named) = named_plugins(alloc, verb, source, plugin) else {
+        return out_of_memory(alloc);
+    };
+    let Some(plugins) = named else {
+        return refuse(alloc, out, err);
+    };
+    let (name, command) = (source.as_str(), command_word(plugin));
+    run_expand(alloc, name, command, &plugins, files, out, err, starter)
+}
+
+/// Does what the words after the program's name ask for: `expand SOURCE [MODULE=COMMAND]`.
+/// The status is 0 where the file was written, 1 for faults, 2 for words that are no command, 3 where the source
+/// could not be read, 4 where a write failed, and 5 where memory was wanting.
+pub fn run<T: AllocGlobal + Copy + Drop, F: Files, O: Sink, E: Sink, P: Starter>(
+    rt: T,
+    words: &[String],
+    files: &mut F,
+    out: &mut O,
+    err: &mut E,
+    starter: &mut P,
+) -> Ended<P::Writer, P::Reader>
+    // Words that are no command.
+    ensures refused { command_of (map string_bytes words.now) ≡ None
+        → IsRefused (O.seen out.old) (O.seen out.new) (E.seen err.old) (E.seen err.new) result.status result.links.items result.unstarted.items }
+    ensures untouched { command_of (map string_bytes words.now) ≡ None → (files.new ≡ files.old) × (starter.new ≡ starter.old) }
+
+    // The expansion of a source.
+    ensures expanded { (name : List ℕ) (plugins : List Plugin) → command_of (map string_bytes words.now) ≡ Some (Command.Expand name plugins)
+        → (result.status ≡ 5 → ⊥) → Expands name plugins (F.seen files.old) (F.seen files.new)
+        (O.seen out.old) (O.seen out.new) (E.seen err.old) (E.seen err.new) result.status result.read
+        (map (link_seen P.Writer.seen P.Reader.seen) result.links.items) result.unstarted.items }
+{
+    let alloc = rt.alloc();
+    let Some((verb, source, plugin)) = three_words(words) else {
+        return refuse(alloc, out, err);
+    };
+    run_words(alloc, verb, source, plugin, files, out, err, starter)
+}
+
+// Two words, or three.
+fn three_words(words: &[String]) -> Option<(&String, &String, Option<&String>)>
+    ensures none { IfNone result (command_of (map string_bytes words.now) ≡ None) }
+    ensures some { IfSome result (λ w. command_of (map string_bytes words.now)
+        ≡ expands (string_bytes w.0.now) (string_bytes w.1.now) (plugins_of (option_map (λ p. string_bytes p.now) w.2))) }
+{
+    match words {
+        [verb, source] => Some((verb, source, None)),
+        [verb, source, plugin] => Some((verb, source, Some(plugin))),
+        _ => None,
+    }
+}
