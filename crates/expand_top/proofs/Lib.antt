@@ -3,3 +3,4 @@ pub mod Marks
 pub mod Lines
 pub mod Links
 pub mod Asking
+pub mod Promises

@@ -4,6 +4,7 @@ pub mod Elements
 pub mod Form
 pub mod Link
 pub mod Payload
+pub mod Promises
 pub mod Run
 pub mod Site
 pub mod Source

@@ -6,6 +6,7 @@ ghost use Rattle.swift_base.specs.declared.plugins.Plugin.{Plugin};
 ghost use Rattle.expand_top.specs.declared.command.Command.TheVariants as Command;
 ghost use Rattle.expand_top.specs.Command.{command_of, expands, plugins_of};
 ghost use Rattle.expand_top.specs.Run.{IsDelivered, GainsAll, GainsFront, ReadsSource, IsAsked, IsAskedAt, IsExpansionAt, IsExpansionOf, IsExpansion, NothingAsked, CanExpand, IsRefused, Expands, link_seen, unread, usage};
+ghost use Rattle.expand_top.specs.Promises.{AskedOnce, LinksServe, KeepsBytes, StatusHasCause};
 ghost use Rattle.expand_top.specs.Answer.{output_seen, refuses, not_built, IsSiteOutput};
 ghost use Rattle.expand_top.specs.Source.{Form, form_seen, IsForm};
 
@@ -441,16 +442,27 @@ pub fn run<T: AllocGlobal + Copy + Drop, F: Files, O: Sink, E: Sink, P: Starter>
     err: &mut E,
     starter: &mut P,
 ) -> Ended<P::Writer, P::Reader>
-    // Words that are no command.
+    // Words that are no command: the usage text, and nothing is read or started.
     ensures refused { command_of (map string_bytes words.now) ≡ None
         → IsRefused (O.seen out.old) (O.seen out.new) (E.seen err.old) (E.seen err.new) result.status result.links.items result.unstarted.items }
     ensures untouched { command_of (map string_bytes words.now) ≡ None → (files.new ≡ files.old) × (starter.new ≡ starter.old) }
 
-    // The expansion of a source.
-    ensures expanded { (name : List ℕ) (plugins : List Plugin) → command_of (map string_bytes words.now) ≡ Some (Command.Expand name plugins)
+    // What the two streams gain is the output of the source and of what was asked; the source was read as it says.
+    ensures output { (name : List ℕ) (plugins : List Plugin) → command_of (map string_bytes words.now) ≡ Some (Command.Expand name plugins)
         → (result.status ≡ 5 → ⊥) → Expands name plugins (F.seen files.old) (F.seen files.new)
         (O.seen out.old) (O.seen out.new) (E.seen err.old) (E.seen err.new) result.status result.read
         (map (link_seen P.Writer.seen P.Reader.seen) result.links.items) result.unstarted.items }
+    ensures asked_once { (name : List ℕ) (plugins : List Plugin) → command_of (map string_bytes words.now) ≡ Some (Command.Expand name plugins)
+        → (result.status ≡ 5 → ⊥) → AskedOnce plugins result.read
+        (map (link_seen P.Writer.seen P.Reader.seen) result.links.items) result.unstarted.items }
+    ensures links_serve { (name : List ℕ) (plugins : List Plugin) → command_of (map string_bytes words.now) ≡ Some (Command.Expand name plugins)
+        → (result.status ≡ 5 → ⊥) → LinksServe name plugins result.read
+        (map (link_seen P.Writer.seen P.Reader.seen) result.links.items) }
+    ensures kept { (name : List ℕ) (plugins : List Plugin) → command_of (map string_bytes words.now) ≡ Some (Command.Expand name plugins)
+        → (result.status ≡ 5 → ⊥) → KeepsBytes plugins result.read result.status (O.seen out.old) (O.seen out.new) }
+    ensures status { (name : List ℕ) (plugins : List Plugin) → command_of (map string_bytes words.now) ≡ Some (Command.Expand name plugins)
+        → (result.status ≡ 5 → ⊥) → StatusHasCause result.status (F.seen files.old) (F.seen files.new)
+        (O.seen out.old) (O.seen out.new) (E.seen err.old) (E.seen err.new) }
 {
     let alloc = rt.alloc();
     let Some((verb, source, plugin)) = three_words(words) else {

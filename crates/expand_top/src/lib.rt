@@ -21,3 +21,6 @@ pub use command::Command;
 pub use driver::{LARGEST_SOURCE, run};
 pub use ended::{Ended, SourceRead};
 pub use link::{Closed, MOST_BYTES, Stop, Unstarted};
+
+#[cfg(test)]
+mod tests;

@@ -1,9 +1,38 @@
 use Rattle.std.proofs.Common.{sym, ◌∙◌}
 use Rattle.expand_top.proofs.Asking.{none_some}
+use Rattle.expand_top.proofs.Promises.{asked_once, links_serve, keeps_bytes, status_has_cause}
 use Rattle.expand_top.proofs.driver.run.Goals as goal
 
-pub returns-clause-expanded : goal.returns-clause-expanded
-returns-clause-expanded g c = λ name plugins is. c.run_words.ensures.expanded name plugins (sym c.in-Some.ensures.some ∙ is)
+pub returns-clause-output : goal.returns-clause-output
+returns-clause-output g c = λ name plugins is. c.run_words.ensures.expanded name plugins (sym c.in-Some.ensures.some ∙ is)
 
-pub returns-in_default-clause-expanded : goal.returns-in_default-clause-expanded
-returns-in_default-clause-expanded g c = λ name plugins is. absurd (none_some _ (sym c.in_default.ensures.none ∙ is))
+pub returns-clause-asked_once : goal.returns-clause-asked_once
+returns-clause-asked_once g c = λ name plugins is ok.
+    let done = c.run_words.ensures.expanded name plugins (sym c.in-Some.ensures.some ∙ is) ok in asked_once name plugins _ _ _ done.output done.expands
+
+pub returns-clause-links_serve : goal.returns-clause-links_serve
+returns-clause-links_serve g c = λ name plugins is ok.
+    let done = c.run_words.ensures.expanded name plugins (sym c.in-Some.ensures.some ∙ is) ok in links_serve name plugins _ _ _ done.output done.expands
+
+pub returns-clause-kept : goal.returns-clause-kept
+returns-clause-kept g c = λ name plugins is ok.
+    let done = c.run_words.ensures.expanded name plugins (sym c.in-Some.ensures.some ∙ is) ok in keeps_bytes name plugins _ _ _ done.output _ _ _ _ _ done.expands done.delivered
+
+pub returns-clause-status : goal.returns-clause-status
+returns-clause-status g c = λ name plugins is ok.
+    let done = c.run_words.ensures.expanded name plugins (sym c.in-Some.ensures.some ∙ is) ok in status_has_cause name plugins _ _ _ done.output _ _ _ _ _ _ _ done.expands done.reads done.delivered
+
+pub returns-in_default-clause-output : goal.returns-in_default-clause-output
+returns-in_default-clause-output g c = λ name plugins is. absurd (none_some _ (sym c.in_default.ensures.none ∙ is))
+
+pub returns-in_default-clause-asked_once : goal.returns-in_default-clause-asked_once
+returns-in_default-clause-asked_once g c = λ name plugins is. absurd (none_some _ (sym c.in_default.ensures.none ∙ is))
+
+pub returns-in_default-clause-links_serve : goal.returns-in_default-clause-links_serve
+returns-in_default-clause-links_serve g c = λ name plugins is. absurd (none_some _ (sym c.in_default.ensures.none ∙ is))
+
+pub returns-in_default-clause-kept : goal.returns-in_default-clause-kept
+returns-in_default-clause-kept g c = λ name plugins is. absurd (none_some _ (sym c.in_default.ensures.none ∙ is))
+
+pub returns-in_default-clause-status : goal.returns-in_default-clause-status
+returns-in_default-clause-status g c = λ name plugins is. absurd (none_some _ (sym c.in_default.ensures.none ∙ is))

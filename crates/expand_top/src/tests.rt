@@ -1,0 +1,229 @@
+use crate::{Ended, Stop, run};
+use std::alloc::{AllocError, Global};
+use std::process::Abort;
+use std::test::Fail;
+use swift_base::{Listed, MemFiles, MemScript, MemSink, MemSource, MemStarter, Sink, Text};
+
+const DECLARATION: &str =
+    "@freestanding(expression) macro stringify<T>(_ value: T) -> (T, String) = #externalMacro(module: \"SampleMacros\", type: \"StringifyMacro\")\n";
+
+const GREETED: &str =
+    "<\0\0\0\0\0\0\0{\"getCapabilityResult\":{\"capability\":{\"protocolVersion\":7}}}";
+
+const REPLIED: &str =
+    "N\0\0\0\0\0\0\0{\"expandMacroResult\":{\"diagnostics\":[],\"expandedSource\":\"(a + b, \\\"a + b\\\")\"}}";
+
+const GREETING: &str =
+    "6\0\0\0\0\0\0\0{\"getCapability\":{\"capability\":{\"protocolVersion\":7}}}";
+
+const REQUEST: &str =
+    "?\u{1}\0\0\0\0\0\0{\"expandFreestandingMacro\":{\"discriminator\":\"$sX145e0_E\",\"macro\":{\"moduleName\":\"SampleMacros\",\"name\":\"stringify\",\"typeName\":\"StringifyMacro\"},\"macroRole\":\"expression\",\"syntax\":{\"kind\":\"expression\",\"location\":{\"column\":9,\"fileID\":\"main/r.swift\",\"fileName\":\"r.swift\",\"line\":2,\"offset\":145},\"source\":\"#stringify(a + b)\"}}}";
+
+#[derive(Drop)]
+struct Ran {
+    ended: Ended<MemSink, MemSource>,
+    out: MemSink,
+    err: MemSink,
+}
+
+fn text(alloc: Global, of: &str) -> Result<Text, AllocError> {
+    Text::from_bytes(alloc, of.as_bytes())
+}
+
+fn joined(alloc: Global, parts: &[&str]) -> Result<String, AllocError> {
+    let mut whole = String::new(alloc);
+    for part in parts {
+        whole.push_str(part)?;
+    }
+    Ok(whole)
+}
+
+// The words between spaces, `r.swift` with a content, one process that gives some bytes in pieces, and an `out`
+// whose calls in `failing` fail.
+fn run_on(
+    rt: HostRuntime,
+    words: &str,
+    content: Option<&str>,
+    gives: Option<(&str, Vec<u32>)>,
+    failing: Vec<u64>,
+) -> Result<Ran, AllocError> {
+    let alloc = rt.alloc();
+    let mut list = Vec::new(alloc);
+    for word in words.split_whitespace() {
+        list.push(String::from_str(alloc, word)?)?;
+    }
+    let mut contents = Vec::new(alloc);
+    if let Some(content) = content {
+        contents.push((text(alloc, "r.swift")?, text(alloc, content)?))?;
+    }
+    let mut files = MemFiles::new(alloc, contents, Vec::new(alloc));
+    let mut links = Vec::new(alloc);
+    if let Some((bytes, pieces)) = gives {
+        links.push(MemScript {
+            gives: text(alloc, bytes)?,
+            pieces: Listed::from_vec(pieces),
+            failing_reads: Listed::from_vec(Vec::new(alloc)),
+            failing_writes: Listed::from_vec(Vec::new(alloc)),
+            room: 4096,
+        })?;
+    }
+    let mut starter = MemStarter::new(alloc, links, Vec::new(alloc));
+    let mut out = MemSink::new(alloc, 4096, failing)?;
+    let mut err = MemSink::new(alloc, 4096, Vec::new(alloc))?;
+    let ended = run(rt, &list, &mut files, &mut out, &mut err, &mut starter);
+    Ok(Ran { ended, out, err })
+}
+
+fn expect(rt: &impl Abort, ran: &Ran, status: u8, out: &str, err: &str) {
+    assert_eq!(rt; ran.ended.status, status);
+    assert_eq!(rt; ran.out.held(), out.as_bytes());
+    assert_eq!(rt; ran.err.held(), err.as_bytes());
+}
+
+#[test]
+fn empty_file_prints_nothing(rt: HostRuntime) -> Result<(), Fail> {
+    let none = Vec::new(rt.alloc());
+    let ran = run_on(rt, "expand r.swift", Some(""), None, none)?;
+    expect(&rt, &ran, 0, "", "");
+    assert_eq!(rt; ran.ended.links.len(), 0);
+    Ok(())
+}
+
+#[test]
+fn expands_stringify_in_place(rt: HostRuntime) -> Result<(), Fail> {
+    let alloc = rt.alloc();
+    let source = joined(alloc, &[DECLARATION, "let r = #stringify(a + b)\n"])?;
+    let file = joined(alloc, &[DECLARATION, "let r = ((a + b, \"a + b\"))\n"])?;
+    let gives = joined(alloc, &[GREETED, REPLIED])?;
+    let sent = joined(alloc, &[GREETING, REQUEST])?;
+    let words = "expand r.swift SampleMacros=plug";
+    // In two frames, in one piece, and one byte at a time.
+    for piece in [68u32, 1000, 1] {
+        let mut pieces = Vec::new(alloc);
+        for _ in 0..160 {
+            pieces.push(piece)?;
+        }
+        let none = Vec::new(alloc);
+        let ran = run_on(rt, words, Some(&source), Some((&gives, pieces)), none)?;
+        expect(&rt, &ran, 0, &file, "");
+        assert_eq!(rt; ran.ended.links.len(), 1);
+        let link = &ran.ended.links[0];
+        assert_eq!(rt; link.writer.held(), sent.as_bytes());
+        assert_eq!(rt; link.got.as_slice(), gives.as_bytes());
+        assert_eq!(rt; link.stop, Stop::Ended);
+        assert!(rt; !link.write_failed);
+    }
+    Ok(())
+}
+
+#[test]
+fn wrong_words_print_the_usage(rt: HostRuntime) -> Result<(), Fail> {
+    let usage = "usage: expand SOURCE [MODULE=COMMAND]\n";
+    for words in [
+        "",
+        "expand",
+        "show r.swift",
+        "expand -r",
+        "expand r.swift A",
+        "expand r.swift A=",
+        "expand r.swift 1=x",
+        "expand a.swift A=x A=y",
+    ] {
+        let none = Vec::new(rt.alloc());
+        let ran = run_on(rt, words, Some(""), None, none)?;
+        expect(&rt, &ran, 2, "", usage);
+    }
+    Ok(())
+}
+
+#[test]
+fn missing_file(rt: HostRuntime) -> Result<(), Fail> {
+    let none = Vec::new(rt.alloc());
+    let ran = run_on(rt, "expand x.swift", None, None, none)?;
+    expect(&rt, &ran, 3, "", "x.swift: the file could not be read\n");
+    Ok(())
+}
+
+#[test]
+fn first_write_fails(rt: HostRuntime) -> Result<(), Fail> {
+    let alloc = rt.alloc();
+    let source = joined(alloc, &[DECLARATION, "let r = #stringify(a + b)\n"])?;
+    let gives = joined(alloc, &[GREETED, REPLIED])?;
+    let script = Some((gives.as_str(), Vec::new(alloc)));
+    let words = "expand r.swift SampleMacros=plug";
+    let ran = run_on(rt, words, Some(&source), script, [0].to_vec(alloc)?)?;
+    expect(&rt, &ran, 4, "", "");
+    Ok(())
+}
+
+#[test]
+fn refusals_of_a_source(rt: HostRuntime) -> Result<(), Fail> {
+    let alloc = rt.alloc();
+    let source = joined(alloc, &[DECLARATION, "let r = #stringify(a + b)\n"])?;
+    let cases = [
+        // no_plugin_for_the_module
+        (
+            "expand r.swift",
+            source.as_str(),
+            "r.swift:2:9: error: no plug-in for module 'SampleMacros'\n",
+        ),
+        // no_macro_of_that_name
+        (
+            "expand r.swift",
+            "let r = #nope(1)\n",
+            "r.swift:1:9: error: no macro named 'nope'\n",
+        ),
+        // form_not_built
+        (
+            "expand r.swift",
+            "struct S {}\n",
+            "r.swift:1:1: error: this form is not built yet\n",
+        ),
+        (
+            "expand r.swift",
+            "let r = await\n",
+            "r.swift:1:1: error: this form is not built yet\n",
+        ),
+        (
+            "expand r.swift",
+            "let r = (\n1)\n",
+            "r.swift:1:1: error: this form is not built yet\n",
+        ),
+        // no_script_left
+        (
+            "expand r.swift SampleMacros=plug",
+            source.as_str(),
+            "r.swift:2:9: error: plug-in 'SampleMacros' gave no reply\n",
+        ),
+    ];
+    for (words, content, line) in cases {
+        let none = Vec::new(alloc);
+        let ran = run_on(rt, words, Some(content), None, none)?;
+        expect(&rt, &ran, 1, "", line);
+    }
+    Ok(())
+}
+
+#[test]
+fn bad_replies_are_no_reply(rt: HostRuntime) -> Result<(), Fail> {
+    let alloc = rt.alloc();
+    let source = joined(alloc, &[DECLARATION, "let r = #stringify(a + b)\n"])?;
+    let cut = joined(alloc, &[GREETED, "N\0\0\0\0\0\0\0{\"expandMacroResult\""])?;
+    let empty = joined(alloc, &[GREETED, "\u{2}\0\0\0\0\0\0\0{}"])?;
+    let no_greeting = joined(alloc, &["\u{2}\0\0\0\0\0\0\0{}", REPLIED])?;
+    let no_reply = "r.swift:2:9: error: plug-in 'SampleMacros' gave no reply\n";
+    for gives in [
+        "",
+        GREETED,
+        cut.as_str(),
+        empty.as_str(),
+        no_greeting.as_str(),
+    ] {
+        let script = Some((gives, Vec::new(alloc)));
+        let none = Vec::new(alloc);
+        let words = "expand r.swift SampleMacros=plug";
+        let ran = run_on(rt, words, Some(&source), script, none)?;
+        expect(&rt, &ran, 1, "", no_reply);
+    }
+    Ok(())
+}
