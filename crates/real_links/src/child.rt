@@ -43,7 +43,10 @@ impl Source for ChildSource {
 }
 
 impl<R: Processes<Started = SystemProcess> + Drop> ChildStarter<R> {
-    pub fn new(rt: R) -> ChildStarter<R> {
+    pub fn new(rt: R) -> ChildStarter<R>
+        ensures faults { result.faults ≡ 0 }
+        ensures rt { result.rt ≡ rt }
+    {
         ChildStarter { rt, faults: 0 }
     }
 }
@@ -72,6 +75,7 @@ fn spawn<R: Processes<Started = SystemProcess>>(
 
 impl<R: Processes<Started = SystemProcess> + Drop> Starter for ChildStarter<R> {
     type Writer = StdSink<ChildStdin>;
+
     type Reader = ChildSource;
 
     ghost seen = { λ s. record { faults = s.faults; links = None; commands = None } };

@@ -1,5 +1,5 @@
 // Real files.
-ghost use Rattle.std.specs.Prelude.{None, ◌≤◌, length, vec_len, IfOk};
+ghost use Rattle.std.specs.Prelude.{◌≡◌, None, ◌≤◌, length, vec_len, IfOk};
 
 use crate::count::raise;
 use std::alloc::Global;
@@ -16,7 +16,10 @@ pub struct StdFiles<R: HostFiles + Drop> {
 }
 
 impl<R: HostFiles + Drop> StdFiles<R> {
-    pub fn new(rt: R) -> StdFiles<R> {
+    pub fn new(rt: R) -> StdFiles<R>
+        ensures faults { result.faults ≡ 0 }
+        ensures rt { result.rt ≡ rt }
+    {
         StdFiles { rt, faults: 0 }
     }
 }

@@ -14,6 +14,5 @@ pub use sink::StdSink;
 pub use source::StdSource;
 
 mod source;
-
 #[cfg(test)]
 mod tests;

@@ -17,6 +17,7 @@ impl<R: Read + Drop> StdSource<R> {
     pub fn new(reader: R) -> StdSource<R>
         ensures faults { result.faults ≡ 0 }
         ensures ends { result.ends ≡ 0 }
+        ensures reader { result.reader ≡ reader }
     {
         StdSource {
             reader,

@@ -1,7 +1,9 @@
 use super::*;
 use std::fs;
 use std::test::Fail;
-use swift_base::{FileFault, Files, ReadFault, Sink, Source, StartFault, Starter, WriteFault, write_all};
+use swift_base::{
+    FileFault, Files, ReadFault, Sink, Source, StartFault, Starter, WriteFault, write_all,
+};
 
 #[test]
 fn a_file_is_read_up_to_the_limit(rt: HostRuntime) -> Result<(), Fail> {
@@ -42,7 +44,12 @@ fn cat_gives_back_what_it_is_given(rt: HostRuntime) -> Result<(), Fail> {
 #[test]
 fn a_program_that_is_not_there_is_a_fault(rt: HostRuntime) -> Result<(), Fail> {
     let mut starter = ChildStarter::new(rt.clone()?);
-    assert!(rt; matches!(&starter.start(rt.alloc(), "no such program"), Err(StartFault::Failed)));
+    assert!(rt;
+        matches!(
+            &starter.start(rt.alloc(), "no such program"),
+            Err(StartFault::Failed)
+        )
+    );
     assert_eq!(rt; starter.faults(), 1);
     Ok(())
 }
@@ -53,7 +60,10 @@ fn a_child_that_ends_early_fails_the_write(rt: HostRuntime) -> Result<(), Fail> 
     let (mut writer, mut reader) = starter.start(rt.alloc(), "true").map_err(|_| "a child")?;
     let mut room = [0u8; 4];
     assert_eq!(rt; reader.read(&mut room), Ok(0));
-    assert_eq!(rt; write_all(&mut writer, b"too late"), Err(WriteFault::Failed));
+    assert_eq!(rt;
+        write_all(&mut writer, b"too late"),
+        Err(WriteFault::Failed)
+    );
     Ok(())
 }
 
