@@ -6,9 +6,8 @@
 use expand_top::run;
 use real_links::{ChildStarter, StdFiles, StdSink};
 use std::alloc::AllocError;
-use std::env;
-use std::io;
 use std::process::ExitCode;
+use std::{env, io};
 
 // The words after the program's name; none where one isn't UTF-8, so that the usage text is printed.
 fn words(rt: &HostRuntime) -> Result<Vec<String>, AllocError> {
