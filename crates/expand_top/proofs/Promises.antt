@@ -7,7 +7,7 @@ use Rattle.swift_base.specs.declared.plugins.Plugin.{Plugin}
 use Rattle.expand_top.specs.Answer.{Output, IsSiteOutput, IsSpliceOf, outcome_output, reply_output, expanded}
 use Rattle.expand_top.specs.Form.{text_at}
 use Rattle.expand_top.specs.Promises.{site_in, OfSource, asked_keys, AskedOnce, Each, IsServed, LinksServe, KeepsOutside, KeepsBytes, StatusHasCause}
-use Rattle.expand_top.specs.Run.{LinkSeen, NothingAsked, IsAsked, of_process, not_started, IsAskedAt, IsExpansionAt, IsExpansionOf, IsExpansion, ReadsSource, IsDelivered, whole, out_failed, err_failed, Expands}
+use Rattle.expand_top.specs.Run.{LinkSeen, NothingAsked, IsAsked, of_process, not_started, IsAskedAt, IsExpansionAt, IsExpansionOf, IsExpansion, ReadsSource, IsDelivered, whole, out_failed, err_failed, usage}
 use Rattle.expand_top.specs.Site.{KeySteps, site_of, asked_at, key_of, request_of, sent_for}
 use Rattle.expand_top.specs.Source.{Form, IsForm}
 use Rattle.expand_top.specs.declared.line.MacroUse.{MacroUse}
@@ -150,19 +150,20 @@ form_status name plugins text (Some form) links unstarted output is = site_statu
 -- its status is 0 or 1, or 3 where the source could not be read
 output_status : (name : List ℕ) (plugins : List Plugin) (source : SourceRead) (links : List LinkSeen) (unstarted : List Unstarted) (output : Output) (files files_after : FilesSeen)
     → IsExpansion name plugins source links unstarted output → ReadsSource files files_after name source
-    → (output.status < 2) ⊎ ((output.status ≡ 3) × Rose files.faults files_after.faults)
+    → ((output.status < 2) × (files_after.faults ≡ files.faults)) ⊎ ((output.status ≡ 3) × Rose files.faults files_after.faults)
 output_status name plugins read.Nothing links unstarted output files files_after is reads = absurd is
 output_status name plugins read.Failed links unstarted output files files_after is reads = inr (ap (λ (w : Output). w.status) is.1, reads.0)
-output_status name plugins read.Larger links unstarted output files files_after is reads = inl (omega (arith, ap (λ (w : Output). w.status) is.1))
-output_status name plugins (read.Bytes text) links unstarted output files files_after is reads = inl (form_status name plugins text is.0 links unstarted output is.2)
+output_status name plugins read.Larger links unstarted output files files_after is reads = inl (omega (arith, ap (λ (w : Output). w.status) is.1), reads.0)
+output_status name plugins (read.Bytes text) links unstarted output files files_after is reads = inl (form_status name plugins text is.0 links unstarted output is.2, reads.0)
 
 whole_cause : (files files_after : FilesSeen) (out out_after err err_after : SinkSeen) (status : ℕ) → out_after.faults ≡ out.faults → err_after.faults ≡ err.faults
-    → (status < 2) ⊎ ((status ≡ 3) × Rose files.faults files_after.faults) → StatusHasCause status files files_after out out_after err err_after
+    → ((status < 2) × (files_after.faults ≡ files.faults)) ⊎ ((status ≡ 3) × Rose files.faults files_after.faults) → StatusHasCause status files files_after out out_after err err_after
 whole_cause files files_after out out_after err err_after status out_same err_same (inl low) = record {
-  range = omega arith;
-  not_two = λ two. omega arith;
-  three = λ three. absurd (omega arith);
-  four = λ four. absurd (omega arith);
+  range = omega (arith, low.0);
+  not_two = λ two. omega (arith, low.0);
+  three = λ three. absurd (omega (arith, low.0));
+  files_fail = λ rose. absurd (omega (arith, low.1));
+  four = λ four. absurd (omega (arith, low.0));
   out_fails = λ rose. absurd (omega arith);
   err_fails = λ rose. absurd (omega arith);
 }
@@ -170,6 +171,7 @@ whole_cause files files_after out out_after err err_after status out_same err_sa
   range = omega (arith, unread.0);
   not_two = λ two. omega (arith, unread.0);
   three = λ three. unread.1;
+  files_fail = λ rose. inl unread.0;
   four = λ four. absurd (omega (arith, unread.0));
   out_fails = λ rose. absurd (omega arith);
   err_fails = λ rose. absurd (omega arith);
@@ -181,6 +183,7 @@ four_cause files files_after out out_after err err_after cause = record {
   range = omega arith;
   not_two = λ two. omega arith;
   three = λ three. absurd (omega arith);
+  files_fail = λ rose. inr refl;
   four = λ four. cause;
   out_fails = λ rose. refl;
   err_fails = λ rose. refl;
@@ -196,3 +199,9 @@ status_has_cause name plugins source links unstarted output files files_after ou
     four_cause files files_after out out_after err err_after (inl front.faults)
 status_has_cause name plugins source links unstarted output files files_after out out_after err err_after status is reads (err_failed to_out front) =
     four_cause files files_after out out_after err err_after (inr front.faults)
+
+-- a run that wrote doesn't answer want of memory
+pub usage_is_not_five : (out out_after err err_after : SinkSeen) (status : ℕ) → IsDelivered out out_after err err_after usage status → status ≡ 5 → ⊥
+usage_is_not_five out out_after err err_after status (whole to_out to_err) five = omega arith
+usage_is_not_five out out_after err err_after status (out_failed front same) five = omega arith
+usage_is_not_five out out_after err err_after status (err_failed to_out front) five = omega arith

@@ -72,6 +72,7 @@ pub record StatusHasCause (status : ℕ) (files files_after : FilesSeen) (out ou
   pub range : status < 5
   pub not_two : status ≡ 2 → ⊥
   pub three : status ≡ 3 → Rose files.faults files_after.faults
+  pub files_fail : files.faults < files_after.faults → (status ≡ 3) ⊎ (status ≡ 4)
   pub four : status ≡ 4 → Rose out.faults out_after.faults ⊎ Rose err.faults err_after.faults
   pub out_fails : out.faults < out_after.faults → status ≡ 4
   pub err_fails : err.faults < err_after.faults → status ≡ 4

@@ -139,3 +139,8 @@ pub record Expands (name : List ℕ) (plugins : List Plugin) (files files_after 
   pub output : Output
   pub expands : IsExpansion name plugins source links unstarted output
   pub delivered : IsDelivered out out_after err err_after output status
+
+-- nothing was written to either stream
+pub record IsUnwritten (out out_after err err_after : SinkSeen) : Type 0 where
+  pub out_same : out_after ≡ out
+  pub err_same : err_after ≡ err

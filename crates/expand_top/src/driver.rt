@@ -5,7 +5,7 @@ ghost use Rattle.swift_base.specs.Outside.{IsFreshWriter};
 ghost use Rattle.swift_base.specs.declared.plugins.Plugin.{Plugin};
 ghost use Rattle.expand_top.specs.declared.command.Command.TheVariants as Command;
 ghost use Rattle.expand_top.specs.Command.{command_of, expands, plugins_of};
-ghost use Rattle.expand_top.specs.Run.{IsDelivered, GainsAll, GainsFront, ReadsSource, IsAsked, IsAskedAt, IsExpansionAt, IsExpansionOf, IsExpansion, NothingAsked, CanExpand, IsRefused, Expands, link_seen, unread, usage};
+ghost use Rattle.expand_top.specs.Run.{IsDelivered, GainsAll, GainsFront, ReadsSource, IsAsked, IsAskedAt, IsExpansionAt, IsExpansionOf, IsExpansion, NothingAsked, CanExpand, IsRefused, IsUnwritten, Expands, link_seen, unread, usage};
 ghost use Rattle.expand_top.specs.Promises.{AskedOnce, LinksServe, KeepsBytes, StatusHasCause};
 ghost use Rattle.expand_top.specs.Answer.{output_seen, refuses, not_built, IsSiteOutput};
 ghost use Rattle.expand_top.specs.Source.{Form, form_seen, IsForm};
@@ -361,7 +361,8 @@ fn refuse<W: Drop, R: Drop, O: Sink, E: Sink>(
     out: &mut O,
     err: &mut E,
 ) -> Ended<W, R>
-    ensures { IsRefused (O.seen out.old) (O.seen out.new) (E.seen err.old) (E.seen err.new) result.status result.links.items result.unstarted.items }
+    ensures refused { IsRefused (O.seen out.old) (O.seen out.new) (E.seen err.old) (E.seen err.new) result.status result.links.items result.unstarted.items }
+    ensures memory { result.status ≡ 5 → IsUnwritten (O.seen out.old) (O.seen out.new) (E.seen err.old) (E.seen err.new) }
 {
     let Ok(output) = usage(alloc) else {
         return out_of_memory(alloc);
@@ -385,7 +386,8 @@ fn run_expand<F: Files, O: Sink, E: Sink, P: Starter>(
     err: &mut E,
     starter: &mut P,
 ) -> Ended<P::Writer, P::Reader>
-    ensures { (result.status ≡ 5 → ⊥) → Expands name.now plugins.now (F.seen files.old) (F.seen files.new)
+    ensures memory { result.status ≡ 5 → IsUnwritten (O.seen out.old) (O.seen out.new) (E.seen err.old) (E.seen err.new) }
+    ensures expanded { (result.status ≡ 5 → ⊥) → Expands name.now plugins.now (F.seen files.old) (F.seen files.new)
         (O.seen out.old) (O.seen out.new) (E.seen err.old) (E.seen err.new) result.status result.read
         (map (link_seen P.Writer.seen P.Reader.seen) result.links.items) result.unstarted.items }
 {
@@ -420,6 +422,7 @@ fn run_words<F: Files, O: Sink, E: Sink, P: Starter>(
         → (result.status ≡ 5 → ⊥) → Expands name plugins (F.seen files.old) (F.seen files.new)
         (O.seen out.old) (O.seen out.new) (E.seen err.old) (E.seen err.new) result.status result.read
         (map (link_seen P.Writer.seen P.Reader.seen) result.links.items) result.unstarted.items }
+    ensures memory { result.status ≡ 5 → IsUnwritten (O.seen out.old) (O.seen out.new) (E.seen err.old) (E.seen err.new) }
 {
     let Ok(named) = named_plugins(alloc, verb, source, plugin) else {
         return out_of_memory(alloc);
@@ -463,6 +466,9 @@ pub fn run<T: AllocGlobal + Copy + Drop, F: Files, O: Sink, E: Sink, P: Starter>
     ensures status { (name : List ℕ) (plugins : List Plugin) → command_of (map string_bytes words.now) ≡ Some (Command.Expand name plugins)
         → (result.status ≡ 5 → ⊥) → StatusHasCause result.status (F.seen files.old) (F.seen files.new)
         (O.seen out.old) (O.seen out.new) (E.seen err.old) (E.seen err.new) }
+
+    // Want of memory is met before the first byte is written.
+    ensures memory { result.status ≡ 5 → IsUnwritten (O.seen out.old) (O.seen out.new) (E.seen err.old) (E.seen err.new) }
 {
     let alloc = rt.alloc();
     let Some((verb, source, plugin)) = three_words(words) else {

@@ -89,29 +89,51 @@ fn empty_file_prints_nothing(rt: HostRuntime) -> Result<(), Fail> {
     Ok(())
 }
 
-#[test]
-fn expands_stringify_in_place(rt: HostRuntime) -> Result<(), Fail> {
+// The expansion of `stringify` where the process gives both frames in such pieces.
+fn exchange(rt: HostRuntime, piece: u32) -> Result<Ran, AllocError> {
     let alloc = rt.alloc();
     let source = joined(alloc, &[DECLARATION, "let r = #stringify(a + b)\n"])?;
-    let file = joined(alloc, &[DECLARATION, "let r = ((a + b, \"a + b\"))\n"])?;
     let gives = joined(alloc, &[GREETED, REPLIED])?;
-    let sent = joined(alloc, &[GREETING, REQUEST])?;
+    let mut pieces = Vec::new(alloc);
+    for _ in 0..160 {
+        pieces.push(piece)?;
+    }
     let words = "expand r.swift SampleMacros=plug";
-    // In two frames, in one piece, and one byte at a time.
-    for piece in [68u32, 1000, 1] {
-        let mut pieces = Vec::new(alloc);
-        for _ in 0..160 {
-            pieces.push(piece)?;
-        }
-        let none = Vec::new(alloc);
-        let ran = run_on(rt, words, Some(&source), Some((&gives, pieces)), none)?;
-        expect(&rt, &ran, 0, &file, "");
-        assert_eq!(rt; ran.ended.links.len(), 1);
-        let link = &ran.ended.links[0];
-        assert_eq!(rt; link.writer.held(), sent.as_bytes());
-        assert_eq!(rt; link.got.as_slice(), gives.as_bytes());
-        assert_eq!(rt; link.stop, Stop::Ended);
-        assert!(rt; !link.write_failed);
+    let none = Vec::new(alloc);
+    run_on(rt, words, Some(&source), Some((&gives, pieces)), none)
+}
+
+fn expanded(alloc: Global) -> Result<String, AllocError> {
+    joined(alloc, &[DECLARATION, "let r = ((a + b, \"a + b\"))\n"])
+}
+
+#[test]
+fn expands_stringify_in_place(rt: HostRuntime) -> Result<(), Fail> {
+    let ran = exchange(rt, 68)?;
+    expect(&rt, &ran, 0, &expanded(rt.alloc())?, "");
+    Ok(())
+}
+
+#[test]
+fn frames_of_the_exchange(rt: HostRuntime) -> Result<(), Fail> {
+    let alloc = rt.alloc();
+    let sent = joined(alloc, &[GREETING, REQUEST])?;
+    let gives = joined(alloc, &[GREETED, REPLIED])?;
+    let ran = exchange(rt, 68)?;
+    assert_eq!(rt; ran.ended.links.len(), 1);
+    let link = &ran.ended.links[0];
+    assert_eq!(rt; link.writer.held(), sent.as_bytes());
+    assert_eq!(rt; link.got.as_slice(), gives.as_bytes());
+    assert_eq!(rt; link.stop, Stop::Ended);
+    assert!(rt; !link.write_failed);
+    Ok(())
+}
+
+#[test]
+fn pieces_do_not_matter(rt: HostRuntime) -> Result<(), Fail> {
+    for piece in [1u32, 1000] {
+        let ran = exchange(rt, piece)?;
+        expect(&rt, &ran, 0, &expanded(rt.alloc())?, "");
     }
     Ok(())
 }

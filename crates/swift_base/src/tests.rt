@@ -17,7 +17,7 @@ fn text(alloc: Global, of: &str) -> Result<Text, AllocError> {
 }
 
 #[test]
-fn sink_in_memory(rt: HostRuntime) -> Result<(), Fail> {
+fn outside_in_memory_sink(rt: HostRuntime) -> Result<(), Fail> {
     let alloc = rt.alloc();
     assert_eq!(rt; text(alloc, "ab")?.bytes(), b"ab".as_slice());
     let mut sink = MemSink::new(alloc, 3, Vec::new(alloc))?;
@@ -34,7 +34,7 @@ fn sink_in_memory(rt: HostRuntime) -> Result<(), Fail> {
 }
 
 #[test]
-fn source_in_memory(rt: HostRuntime) -> Result<(), Fail> {
+fn outside_in_memory_source(rt: HostRuntime) -> Result<(), Fail> {
     let alloc = rt.alloc();
     let pieces = [2, 0].to_vec(alloc)?;
     let mut source = MemSource::new(b"abcdef".to_vec(alloc)?, pieces, [2].to_vec(alloc)?);
@@ -49,7 +49,7 @@ fn source_in_memory(rt: HostRuntime) -> Result<(), Fail> {
 }
 
 #[test]
-fn files_in_memory(rt: HostRuntime) -> Result<(), Fail> {
+fn outside_in_memory_files(rt: HostRuntime) -> Result<(), Fail> {
     let alloc = rt.alloc();
     let mut list = Vec::new(alloc);
     list.push((text(alloc, "a")?, text(alloc, "xyz")?))?;
@@ -66,7 +66,7 @@ fn files_in_memory(rt: HostRuntime) -> Result<(), Fail> {
 }
 
 #[test]
-fn starter_in_memory(rt: HostRuntime) -> Result<(), Fail> {
+fn outside_in_memory_starter(rt: HostRuntime) -> Result<(), Fail> {
     let alloc = rt.alloc();
     let script = MemScript {
         gives: text(alloc, "ok")?,
