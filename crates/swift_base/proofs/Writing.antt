@@ -9,17 +9,19 @@ then_bytes-then_bytes (Some held) a b = ap Some (append_assoc held a b)
 
 -- one more piece of what is to be written
 pub one_more : (start before now : Option (List ℕ)) (done rest bytes : List ℕ) (n : ℕ) → done ++ rest ≡ bytes → before ≡ then_bytes start done → now ≡ then_bytes before (take n rest) → (more : List ℕ) × (more ++ drop n rest ≡ bytes) × (now ≡ then_bytes start more)
-one_more start before now done rest bytes n whole held piece =
-    (done ++ take n rest,
-     append_assoc done (take n rest) (drop n rest) ∙ ap (λ (r : List ℕ). done ++ r) (take-append-drop n rest) ∙ whole,
-     piece ∙ ap (λ h. then_bytes h (take n rest)) held ∙ then_bytes-then_bytes start done (take n rest))
+one_more start before now done rest bytes n whole held piece = (
+  done ++ take n rest,
+  append_assoc done (take n rest) (drop n rest) ∙ ap (λ (r : List ℕ). done ++ r) (take-append-drop n rest) ∙ whole,
+  piece ∙ ap (λ h. then_bytes h (take n rest)) held ∙ then_bytes-then_bytes start done (take n rest),
+)
 
 -- what was written before a fault is a proper front
 pub proper_front : (start now : Option (List ℕ)) (done rest bytes : List ℕ) → done ++ rest ≡ bytes → now ≡ then_bytes start done → 0 < length rest → (n : ℕ) × (n < length bytes) × (now ≡ then_bytes start (take n bytes))
-proper_front start now done rest bytes whole held some =
-    (length done,
-     omega (arith, ap length whole, length-append done rest),
-     held ∙ ap (λ d. then_bytes start d) (sym (take-append_seam done rest) ∙ ap (λ (b : List ℕ). take (length done) b) whole))
+proper_front start now done rest bytes whole held some = (
+  length done,
+  omega (arith, ap length whole, length-append done rest),
+  held ∙ ap (λ d. then_bytes start d) (sym (take-append_seam done rest) ∙ ap (λ (b : List ℕ). take (length done) b) whole),
+)
 
 pub some_left : (rest : List ℕ) → false ≡ (length rest == 0) → 0 < length rest
 some_left [] is = absurd (cc)

@@ -42,8 +42,20 @@ after_start s command = record s {
 -- the two ends of a link that was just started
 abbrev pub fresh_writer : MemScript → SinkState
 fresh_writer script = record {
-  held = []; room = script.room; failing = script.failing_writes; calls = 0; faults = 0; closing = None }
+  held = [];
+  room = script.room;
+  failing = script.failing_writes;
+  calls = 0;
+  faults = 0;
+  closing = None;
+}
 
 abbrev pub fresh_reader : MemScript → SourceState
 fresh_reader script = record {
-  left = script.gives; pieces = script.pieces; failing = script.failing_reads; calls = 0; faults = 0; ends = 0 }
+  left = script.gives;
+  pieces = script.pieces;
+  failing = script.failing_reads;
+  calls = 0;
+  faults = 0;
+  ends = 0;
+}

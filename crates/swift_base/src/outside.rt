@@ -107,12 +107,17 @@ pub trait Files {
 /// Starts programs, whose input it gives as a writer and whose output as a reader.
 pub trait Starter: Drop {
     type Writer: Sink;
+
     type Reader: Source + Send + 'static;
 
     ghost seen: { Self → StarterSeen };
 
     /// Starts the program of this command, with no arguments.
-    fn start(&mut self, alloc: Global, command: &str) -> Result<(Self::Writer, Self::Reader), StartFault>
+    fn start(
+        &mut self,
+        alloc: Global,
+        command: &str,
+    ) -> Result<(Self::Writer, Self::Reader), StartFault>
         ensures writer { IfOk result (λ p. IsFreshWriter (Self.Writer.seen p.0)) }
         ensures reader { IfOk result (λ p. IsFreshReader (Self.Reader.seen p.1)) }
 

@@ -25,11 +25,11 @@ impl Model for MemFiles {
     ghost Value = { FilesState };
 
     ghost view = { λ s. record {
-        files = s.files.items;
-        failing = s.failing.items;
-        calls = s.calls;
-        faults = s.faults;
-        names = s.names.items;
+      files = s.files.items;
+      failing = s.failing.items;
+      calls = s.calls;
+      faults = s.faults;
+      names = s.names.items;
     } };
 }
 
@@ -38,7 +38,12 @@ impl MemFiles {
     /// finds no memory changes nothing and isn't counted.
     pub fn new(alloc: Global, files: Vec<(Text, Text)>, failing: Vec<u64>) -> MemFiles
         ensures { result ≡ record {
-            files = files.items; failing = failing.items; calls = 0; faults = 0; names = [] } }
+          files = files.items;
+          failing = failing.items;
+          calls = 0;
+          faults = 0;
+          names = [];
+        } }
     {
         MemFiles {
             files,

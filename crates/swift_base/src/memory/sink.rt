@@ -25,12 +25,12 @@ impl Model for MemSink {
     ghost Value = { SinkState };
 
     ghost view = { λ s. record {
-        held = s.held.items;
-        room = s.room;
-        failing = s.failing.items;
-        calls = s.calls;
-        faults = s.faults;
-        closing = s.closing;
+      held = s.held.items;
+      room = s.room;
+      failing = s.failing.items;
+      calls = s.calls;
+      faults = s.faults;
+      closing = s.closing;
     } };
 
     ghost invariant = { λ s. (length s.held.items ≤ s.room) × (s.room ≤ vec_capacity s.held) };
@@ -41,7 +41,13 @@ impl MemSink {
     /// one with a piece that isn't empty where no room is left.
     pub fn new(alloc: Global, room: u32, failing: Vec<u64>) -> Result<MemSink, AllocError>
         ensures { IfOk result (λ s. s ≡ record {
-            held = []; room = room; failing = failing.items; calls = 0; faults = 0; closing = None }) }
+          held = [];
+          room = room;
+          failing = failing.items;
+          calls = 0;
+          faults = 0;
+          closing = None;
+        }) }
     {
         let held = Vec::with_capacity(alloc, room as usize)?;
         Ok(MemSink::with_room(held, room, failing))
@@ -52,7 +58,13 @@ impl MemSink {
         requires empty { held.items ≡ [] }
         requires room { room ≤ vec_capacity held }
         ensures { result ≡ record {
-            held = []; room = room; failing = failing.items; calls = 0; faults = 0; closing = None } }
+          held = [];
+          room = room;
+          failing = failing.items;
+          calls = 0;
+          faults = 0;
+          closing = None;
+        } }
     {
         MemSink {
             held,

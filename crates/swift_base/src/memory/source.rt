@@ -25,12 +25,12 @@ impl Model for MemSource {
     ghost Value = { SourceState };
 
     ghost view = { λ s. record {
-        left = drop s.taken s.bytes.items;
-        pieces = s.pieces.items;
-        failing = s.failing.items;
-        calls = s.calls;
-        faults = s.faults;
-        ends = s.ends;
+      left = drop s.taken s.bytes.items;
+      pieces = s.pieces.items;
+      failing = s.failing.items;
+      calls = s.calls;
+      faults = s.faults;
+      ends = s.ends;
     } };
 
     ghost invariant = { λ s. s.taken ≤ length s.bytes.items };
@@ -41,7 +41,13 @@ impl MemSource {
     /// all that fits. The calls in `failing` fail.
     pub fn new(bytes: Vec<u8>, pieces: Vec<u32>, failing: Vec<u64>) -> MemSource
         ensures { result ≡ record {
-            left = bytes.items; pieces = pieces.items; failing = failing.items; calls = 0; faults = 0; ends = 0 } }
+          left = bytes.items;
+          pieces = pieces.items;
+          failing = failing.items;
+          calls = 0;
+          faults = 0;
+          ends = 0;
+        } }
     {
         MemSource {
             bytes,

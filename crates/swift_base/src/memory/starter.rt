@@ -26,12 +26,12 @@ impl Model for MemStarter {
     ghost Value = { StarterState };
 
     ghost view = { λ s. record {
-        links = s.links.items;
-        failing = s.failing.items;
-        calls = s.calls;
-        faults = s.faults;
-        started = s.started.items;
-        failed = s.failed.items;
+      links = s.links.items;
+      failing = s.failing.items;
+      calls = s.calls;
+      faults = s.faults;
+      started = s.started.items;
+      failed = s.failed.items;
     } };
 }
 
@@ -40,7 +40,13 @@ impl MemStarter {
     /// memory changes nothing and isn't counted.
     pub fn new(alloc: Global, links: Vec<MemScript>, failing: Vec<u64>) -> MemStarter
         ensures { result ≡ record {
-            links = links.items; failing = failing.items; calls = 0; faults = 0; started = []; failed = [] } }
+          links = links.items;
+          failing = failing.items;
+          calls = 0;
+          faults = 0;
+          started = [];
+          failed = [];
+        } }
     {
         MemStarter {
             links,
@@ -55,6 +61,7 @@ impl MemStarter {
 
 impl Starter for MemStarter {
     type Writer = MemSink;
+
     type Reader = MemSource;
 
     ghost use Rattle.std.specs.Prelude.{Some};
@@ -94,7 +101,11 @@ impl Starter for MemStarter {
             room: _,
         } = self.links.remove(0);
         let writer = MemSink::with_room(held, room, failing_writes.into_vec());
-        let reader = MemSource::new(gives.into_vec(), pieces.into_vec(), failing_reads.into_vec());
+        let reader = MemSource::new(
+            gives.into_vec(),
+            pieces.into_vec(),
+            failing_reads.into_vec(),
+        );
         Ok((writer, reader))
     }
 
