@@ -9,4 +9,4 @@ returns-in_default-clause-refused g c = record {
 }
 
 pub returns-clause-memory : goal.returns-clause-memory
-returns-clause-memory g c = λ five. absurd (usage_is_not_five _ _ _ _ _ (rw c.in-Ok.ensures at c.deliver.ensures) five)
+returns-clause-memory g c = λ five. absurd (usage_is_not_five _ _ _ _ _ (rw c.in-Ok.ensures at c.deliver-status.ensures) five)
