@@ -1,5 +1,5 @@
 -- One request, by what is handed back.
-use Rattle.std.proofs.Common.{◌≡◌, ℕ, ◌≤◌, Option, None, Some, List, [], ◌∷◌, length, refl, sym, subst}
+use Rattle.std.proofs.Common.{◌≡◌, ℕ, Option, None, Some, List, [], ◌∷◌, length, subst}
 use Rattle.swift_base.specs.Told.{Rose}
 use Rattle.expand_top.specs.Link.{StopHasCause, IsWritten, IsLinkOutcome}
 use Rattle.expand_top.specs.Site.{KeySteps}

@@ -1,5 +1,5 @@
 -- What a reader gave, piece after piece, and what a writer was given.
-use Rattle.std.proofs.Common.{◌≡◌, ℕ, zero, suc, ◌<◌, ◌≤◌, Bool, true, false, Option, Some, None, List, [], ◌∷◌, ◌++◌, length, take, refl, sym, ap, subst, ◌∙◌, append_assoc, append-nil, arith, inl, inr, ◌⊎◌}
+use Rattle.std.proofs.Common.{◌≡◌, ℕ, zero, suc, ◌<◌, ◌≤◌, Bool, true, false, Option, Some, None, List, [], ◌++◌, length, take, refl, sym, ap, subst, ◌∙◌, append_assoc, append-nil, arith, inl, inr}
 use Rattle.swift_base.specs.Told.{Tells, prepend, then_bytes, Rose}
 use Rattle.swift_base.specs.Outside.{SourceSeen, SinkSeen, IsFreshWriter, IsClosedBy}
 use Rattle.expand_top.specs.Link.{Gains, IsGiven, IsWritten}

@@ -1,13 +1,13 @@
 -- Objects of one member, and that a request has no floats.
-use Rattle.std.proofs.Common.{◌≡◌, ◌≢◌, ◌==◌, ℕ, Bool, false, Option, Some, None, List, [], ◌∷◌, length, refl, ap, ◌∙◌, sym, arith, String}
+use Rattle.std.proofs.Common.{◌≡◌, ◌≢◌, ◌==◌, ℕ, false, Some, None, List, [], ◌∷◌, length, refl, ap, arith, String}
 use Rattle.std.specs.declared.alloc.Global.{Global}
-use Rattle.serde_json.specs.Data.{Data, null, boolean, number, string, array, object, Members, no_members, member}
+use Rattle.serde_json.specs.Data.{Data, null, boolean, number, string, array, object, Members}
 use Rattle.serde_json.specs.Find.{get, as_object}
 use Rattle.std.proofs.lemmas.Bool.Decides.{nat_tests}
 use Rattle.serde_json.specs.View.{members_view, items_view}
 use Rattle.serde_json.specs.Written.{has_float}
 use Rattle.serde_json.specs.declared.value.Value.{Value}
-use Rattle.expand_top.specs.Payload.{sole, sole_member, is_empty, request_data, macro_data, syntax_data, location_data}
+use Rattle.expand_top.specs.Payload.{sole, is_empty, request_data, macro_data, syntax_data, location_data}
 use Rattle.expand_top.specs.declared.payload.ExpressionRequest.{ExpressionRequest}
 
 pub no_floats : (r : ExpressionRequest) → has_float (request_data r) ≡ false

@@ -1,15 +1,14 @@
 -- The promises of a run, from what one run does.
-use Rattle.std.proofs.Common.{◌≡◌, ◌⊎◌, inl, inr, ℕ, ◌<◌, ◌≤◌, ◌++◌, Option, Some, None, List, [], ◌∷◌, map, take, drop, length, codes, refl, sym, ap, ◌∙◌, subst, append_assoc, arith}
-use Rattle.std.specs.List.{flat_map}
+use Rattle.std.proofs.Common.{◌≡◌, ◌⊎◌, inl, inr, ℕ, ◌<◌, ◌++◌, Option, Some, None, List, [], ◌∷◌, take, drop, codes, refl, sym, ap, ◌∙◌, subst, append_assoc, arith}
 use Rattle.swift_base.specs.Told.{then_bytes, Rose}
 use Rattle.swift_base.specs.Outside.{SinkSeen, FilesSeen}
 use Rattle.swift_base.specs.declared.plugins.Plugin.{Plugin}
-use Rattle.expand_top.specs.Answer.{Output, IsSiteOutput, IsSpliceOf, outcome_output, reply_output, expanded}
+use Rattle.expand_top.specs.Answer.{Output, IsSiteOutput, outcome_output}
 use Rattle.expand_top.specs.Form.{text_at}
-use Rattle.expand_top.specs.Promises.{site_in, OfSource, asked_keys, AskedOnce, Each, IsServed, LinksServe, KeepsOutside, KeepsBytes, StatusHasCause}
-use Rattle.expand_top.specs.Run.{LinkSeen, NothingAsked, IsAsked, of_process, not_started, IsAskedAt, IsExpansionAt, IsExpansionOf, IsExpansion, ReadsSource, IsDelivered, whole, out_failed, err_failed, usage}
+use Rattle.expand_top.specs.Promises.{site_in, asked_keys, AskedOnce, Each, IsServed, LinksServe, KeepsOutside, KeepsBytes, StatusHasCause}
+use Rattle.expand_top.specs.Run.{LinkSeen, NothingAsked, IsAsked, of_process, not_started, IsAskedAt, IsExpansionOf, IsExpansion, ReadsSource, IsDelivered, whole, out_failed, err_failed, usage}
 use Rattle.expand_top.specs.Site.{KeySteps, site_of, asked_at, key_of, request_of, sent_for}
-use Rattle.expand_top.specs.Source.{Form, IsForm}
+use Rattle.expand_top.specs.Source.{Form}
 use Rattle.expand_top.specs.declared.line.MacroUse.{MacroUse}
 use Rattle.expand_top.specs.declared.line.Declaration.{Declaration}
 use Rattle.expand_top.specs.declared.link.Unstarted.{Unstarted}

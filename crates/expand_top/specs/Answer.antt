@@ -1,10 +1,9 @@
 -- What the expansion of a source answers. This project's own; the lines are those of compilers.
-use Rattle.std.specs.Prelude.{◌≡◌, ℕ, ◌+◌, ◌<◌, ◌≤◌, ◌==◌, ◌||◌, ◌&&◌, not, nat_lt, nat_le, if◌then◌else◌, Bool, true, false, Option, Some, None, option_and_then, List, [], ◌∷◌, ◌++◌, length, map, take, drop, slice_range, decimal, codes}
+use Rattle.std.specs.Prelude.{◌≡◌, ℕ, ◌<◌, ◌≤◌, ◌==◌, ◌||◌, nat_lt, if◌then◌else◌, Bool, false, Option, Some, None, option_and_then, List, [], ◌∷◌, ◌++◌, length, map, take, drop, slice_range, decimal, codes}
 use Rattle.std.specs.List.{list_any}
 use Rattle.swift_base.specs.Lines.{line_behind, column_behind}
-use Rattle.swift_lexer.specs.Trees.{Tree, leaf, nest, forest_from, forest_tokens}
-use Rattle.swift_lexer.specs.declared.token.Token.{Token}
-use Rattle.expand_top.specs.Elements.{spells, has_mark}
+use Rattle.swift_lexer.specs.Trees.{Tree, leaf, nest}
+use Rattle.expand_top.specs.Elements.{spells}
 use Rattle.expand_top.specs.Form.{text_at, any_marked}
 use Rattle.expand_top.specs.Source.{HasElements}
 use Rattle.expand_top.specs.declared.elements.Mark.TheVariants as mark

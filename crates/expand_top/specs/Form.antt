@@ -1,24 +1,19 @@
 -- What the lines of a source mean, for sources of the one form that is read so far. This project's own.
 -- A declaration of an expression macro (SE-0382), `let` with a plain value, or `let` with a use.
-use Rattle.std.specs.Prelude.{◌≡◌, ℕ, ◌+◌, ◌-◌, ◌==◌, ◌&&◌, ◌||◌, not, nat_le, min, ◌^◌, if◌then◌else◌, Bool, true, false, Option, Some, None, option_map, option_and_then, Result, Ok, Err, List, [], ◌∷◌, length, map, take, drop, slice_range, codes}
-use Rattle.std.specs.List.{list_any, filter_map, position_or_len}
+use Rattle.std.specs.Prelude.{ℕ, ◌+◌, ◌-◌, ◌==◌, ◌&&◌, ◌||◌, not, nat_le, min, ◌^◌, if◌then◌else◌, Bool, true, false, Option, Some, None, option_and_then, List, [], ◌∷◌, length, take, drop, slice_range, codes}
+use Rattle.std.specs.List.{list_any}
 use Rattle.std.specs.Option.{option_map_or}
 use Rattle.std.specs.Str.{bytes_eq}
-use Rattle.swift_base.specs.Names.{are_distinct}
 use Rattle.swift_base.specs.declared.place.Span.{Span}
 use Rattle.swift_lexer.specs.declared.token.Token.{Token}
 use Rattle.swift_lexer.specs.declared.token.Class.{Class}
 use Rattle.swift_lexer.specs.declared.token.Class.TheVariants as class
-use Rattle.swift_lexer.specs.Tokens.{IsLexed}
-use Rattle.swift_lexer.specs.Groups.{IsGrouped}
 use Rattle.swift_lexer.specs.Trees.{Tree, forest_from, forest_tokens}
 use Rattle.swift_lexer.specs.Tiles.{bytes_of}
-use Rattle.expand_top.specs.Elements.{has_mark, spans_lines, begins_line, leaf_at, Round, round_at, spells_at}
+use Rattle.expand_top.specs.Elements.{has_mark, begins_line, leaf_at, Round, round_at, spells_at}
 use Rattle.expand_top.specs.declared.elements.Mark.{Mark}
 use Rattle.expand_top.specs.declared.elements.Mark.TheVariants as mark
 use Rattle.expand_top.specs.declared.line.TheConstants.{JOINING_WORDS, BUILTIN_WORDS}
-use Rattle.expand_top.specs.declared.line.Declaration.{Declaration}
-use Rattle.expand_top.specs.declared.line.MacroUse.{MacroUse}
 use Rattle.expand_top.specs.declared.line.Line.{Line}
 use Rattle.expand_top.specs.declared.line.Line.TheVariants as line
 

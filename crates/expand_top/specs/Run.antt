@@ -1,17 +1,13 @@
 -- What one call of the program does. This project's own.
-use Rattle.std.specs.Prelude.{◌≡◌, ℕ, ◌<◌, ◌≤◌, ◌++◌, Bool, Option, Some, None, List, [], ◌∷◌, length, map, take, codes, Vec}
-use Rattle.std.specs.List.{flat_map}
-use Rattle.std.specs.declared.alloc.Global.{Global}
-use Rattle.swift_base.specs.Told.{Tells, prepend, then_bytes, then_name, Rose}
+use Rattle.std.specs.Prelude.{◌≡◌, ℕ, ◌<◌, ◌≤◌, ◌++◌, Bool, Option, Some, None, List, [], ◌∷◌, length, take, codes}
+use Rattle.swift_base.specs.Told.{then_bytes, then_name, Rose}
 use Rattle.swift_base.specs.Outside.{SourceSeen, SinkSeen, FilesSeen, HasContent}
 use Rattle.swift_base.specs.declared.plugins.Plugin.{Plugin}
-use Rattle.expand_top.specs.Answer.{Output, refuses, not_built, plain, IsSiteOutput}
+use Rattle.expand_top.specs.Answer.{Output, refuses, not_built, IsSiteOutput}
 use Rattle.expand_top.specs.Form.{text_at}
 use Rattle.expand_top.specs.Link.{StopHasCause, IsWritten, IsLinkOutcome}
 use Rattle.expand_top.specs.Site.{KeySteps, site_of, key_of, request_of, sent_for}
 use Rattle.expand_top.specs.Source.{Form, IsForm}
-use Rattle.expand_top.specs.declared.line.MacroUse.{MacroUse}
-use Rattle.expand_top.specs.declared.line.Declaration.{Declaration}
 use Rattle.expand_top.specs.declared.link.Stop.{Stop}
 use Rattle.expand_top.specs.declared.link.Closed.{Closed}
 use Rattle.expand_top.specs.declared.link.Unstarted.{Unstarted}

@@ -1,5 +1,5 @@
 -- The one place where a source may ask a plug-in, and what is asked there. After SE-0382.
-use Rattle.std.specs.Prelude.{ℕ, Bool, Option, Some, None, List, [], ◌∷◌, ◌++◌, take, find}
+use Rattle.std.specs.Prelude.{ℕ, Option, Some, None, List, [], ◌∷◌, ◌++◌, take, find}
 use Rattle.std.specs.Str.{bytes_eq}
 use Rattle.swift_base.specs.Lines.{line_behind, column_behind}
 use Rattle.swift_base.specs.declared.plugins.Plugin.{Plugin}

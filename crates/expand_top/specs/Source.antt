@@ -2,7 +2,6 @@
 use Rattle.std.specs.Prelude.{◌≡◌, ℕ, ◌&&◌, nat_le, if◌then◌else◌, Option, Some, None, option_map, option_and_then, Ok, Err, List, [], ◌∷◌, length, map, slice_get}
 use Rattle.std.specs.List.{list_any, filter_map}
 use Rattle.swift_base.specs.Names.{are_distinct}
-use Rattle.swift_base.specs.declared.place.Span.{Span}
 use Rattle.swift_lexer.specs.declared.token.Token.{Token}
 use Rattle.swift_lexer.specs.declared.token.LexFault.{LexFault}
 use Rattle.swift_lexer.specs.declared.element.GroupFault.{GroupFault}

@@ -1,4 +1,4 @@
-use Rattle.std.proofs.Common.{◌≡◌, ℕ, ◌||◌, Bool, true, false, refl, sym, ap, ◌∙◌, get_or}
+use Rattle.std.proofs.Common.{◌||◌, true, false, refl, sym, ap, ◌∙◌}
 use Rattle.expand_top.specs.Elements.{has_mark}
 use Rattle.expand_top.proofs.Marks.{tree_any, row_any, tree_any-leaf, tree_any-nest, tree_any-inner, found, passed, none_behind}
 use Rattle.expand_top.proofs.elements.+is_marked.Goals as goal

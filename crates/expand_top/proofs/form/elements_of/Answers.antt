@@ -1,4 +1,4 @@
-use Rattle.std.proofs.Common.{◌≡◌, Ok, List, subst, sym}
+use Rattle.std.proofs.Common.{Ok, List, subst, sym}
 use Rattle.swift_lexer.specs.Tokens.{IsLexed}
 use Rattle.swift_lexer.specs.declared.token.Token.{Token}
 use Rattle.expand_top.specs.Source.{not_lexed, not_grouped, grouped}

@@ -1,4 +1,4 @@
-use Rattle.std.proofs.Common.{◌≡◌, ◌+◌, ◌∙◌, ◌∷◌, List, drop, map, ap, sym}
+use Rattle.std.proofs.Common.{◌+◌, ◌∙◌, ◌∷◌, List, drop, map, ap, sym}
 use Rattle.std.specs.List.{position_or_len}
 use Rattle.swift_lexer.specs.Trees.{tree_of}
 use Rattle.swift_lexer.specs.declared.element.Element.{Element}

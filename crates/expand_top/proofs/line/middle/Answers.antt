@@ -1,4 +1,4 @@
-use Rattle.std.proofs.Common.{◌≡◌, ◌-◌, ◌∙◌, ap, sym, List, length, take, drop, map}
+use Rattle.std.proofs.Common.{◌-◌, ◌∙◌, ap, sym, List, length, take, drop, map}
 use Rattle.std.proofs.lemmas.List.{take-map, drop-map, length-map}
 use Rattle.swift_lexer.specs.Trees.{tree_of}
 use Rattle.swift_lexer.specs.declared.element.Element.{Element}

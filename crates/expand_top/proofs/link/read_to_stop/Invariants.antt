@@ -1,4 +1,4 @@
-use Rattle.std.proofs.Common.{ℕ, ◌+◌, ◌-◌, length}
+use Rattle.std.proofs.Common.{◌+◌, ◌-◌, length}
 use Rattle.expand_top.specs.Link.{Gains}
 use Rattle.expand_top.specs.declared.link.TheConstants.{MOST_BYTES}
 use Rattle.expand_top.proofs.link.read_to_stop.Given as goal

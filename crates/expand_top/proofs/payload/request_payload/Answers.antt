@@ -1,5 +1,4 @@
-use Rattle.std.proofs.Common.{◌≡◌, ◌∙◌, ap, subst, Bool, false, sym}
-use Rattle.serde_json.specs.Data.{Data}
+use Rattle.std.proofs.Common.{◌∙◌, ap}
 use Rattle.serde_json.specs.Written.{compact_text, has_float}
 use Rattle.expand_top.specs.Payload.{request_payload}
 use Rattle.expand_top.proofs.Payloads.{no_floats}

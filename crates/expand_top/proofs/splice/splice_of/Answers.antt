@@ -1,4 +1,4 @@
-use Rattle.std.proofs.Common.{◌∙◌, Some, None, List, ℕ, map, ap, refl}
+use Rattle.std.proofs.Common.{◌∙◌, Some, None, List, map, ap, refl}
 use Rattle.swift_lexer.specs.Trees.{tree_of}
 use Rattle.swift_lexer.specs.declared.element.Element.{Element}
 use Rattle.expand_top.specs.Answer.{expression_in, too_long, read}
