@@ -1,4 +1,3 @@
 pub mod Numerals
 pub mod Prefix
 pub mod Laws
-pub mod Texts
