@@ -24,6 +24,14 @@ use swift_base::{
 };
 use unique_names::Key;
 
+/// What is written for words that are no command. It names what is still to come, too.
+pub const USAGE: &[u8] = b"\
+usage: expand [--macros FILE] [--width N] SOURCE [MODULE=COMMAND]...
+       check [--macros FILE] SOURCE
+       show SOURCE
+       measure N
+";
+
 /// How many bytes a source may have.
 pub const LARGEST_SOURCE: u32 = 4_194_304;
 
@@ -337,7 +345,7 @@ fn usage(alloc: Global) -> Result<Output, AllocError>
 {
     Ok(Output {
         out: Vec::new(alloc),
-        err: Vec::from_slice(alloc, b"usage: expand SOURCE [MODULE=COMMAND]\n")?,
+        err: Vec::from_slice(alloc, USAGE)?,
         status: 2,
     })
 }

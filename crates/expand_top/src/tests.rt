@@ -140,7 +140,8 @@ fn pieces_do_not_matter(rt: HostRuntime) -> Result<(), Fail> {
 
 #[test]
 fn wrong_words_print_the_usage(rt: HostRuntime) -> Result<(), Fail> {
-    let usage = "usage: expand SOURCE [MODULE=COMMAND]\n";
+    let usage =
+        "usage: expand [--macros FILE] [--width N] SOURCE [MODULE=COMMAND]...\n       check [--macros FILE] SOURCE\n       show SOURCE\n       measure N\n";
     for words in [
         "",
         "expand",
@@ -222,6 +223,9 @@ fn refusals_of_a_source(rt: HostRuntime) -> Result<(), Fail> {
         let none = Vec::new(alloc);
         let ran = run_on(rt, words, Some(content), None, none)?;
         expect(&rt, &ran, 1, "", line);
+        for entry in &ran.ended.unstarted {
+            assert_eq!(rt; (entry.before, entry.after), (0, 1));
+        }
     }
     Ok(())
 }
