@@ -15,7 +15,6 @@ use Rattle.expand_top.specs.declared.outcome.Outcome.{Outcome}
 use Rattle.expand_top.specs.declared.outcome.Outcome.TheVariants as outcome
 use Rattle.expand_top.specs.declared.site.Site.{Site}
 use Rattle.expand_top.specs.declared.site.Site.TheVariants as site
-use Rattle.expand_top.specs.declared.driver.TheConstants.{USAGE}
 use Rattle.expand_top.specs.declared.ended.SourceRead.{SourceRead}
 use Rattle.expand_top.specs.declared.ended.SourceRead.TheVariants as read
 
@@ -111,7 +110,7 @@ pub data IsDelivered (out out_after err err_after : SinkSeen) (output : Output) 
   err_failed : GainsAll out out_after output.out → GainsFront err err_after output.err → IsDelivered out out_after err err_after output 4
 
 abbrev pub usage_text : List ℕ
-usage_text = USAGE.now
+usage_text = codes "usage: expand [--macros FILE] [--width N] SOURCE [MODULE=COMMAND]...\n       check [--macros FILE] SOURCE\n       show SOURCE\n       measure N\n"
 
 abbrev pub usage : Output
 usage = record { out = []; err = usage_text; status = 2 }
