@@ -1,3 +1,4 @@
 pub mod Numerals
 pub mod Prefix
 pub mod Laws
+pub mod Texts

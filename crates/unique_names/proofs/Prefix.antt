@@ -1,5 +1,5 @@
 -- No word begins with the discriminators of two keys.
-use Rattle.std.proofs.Common.{◌≡◌, ℕ, ◌+◌, ◌<◌, ◌≤◌, List, [], ◌∷◌, ◌++◌, codes, Option, Some, None, refl, sym, ◌∙◌, ap, subst, arith, rules, append_assoc, append-nil, option_map, ◌==◌, length, get_or, drop, add-one, drop-cons}
+use Rattle.std.proofs.Common.{◌≡◌, ℕ, ◌+◌, ◌<◌, ◌≤◌, List, [], ◌∷◌, ◌++◌, Option, Some, refl, sym, ◌∙◌, ap, arith, append_assoc, append-nil, option_map, ◌==◌, length, get_or, drop, add-one, drop-cons}
 use Rattle.std.specs.List.{find}
 use Rattle.std.proofs.Math.ListN.{drop_of_length-le}
 use Rattle.std.proofs.Math.Utf8.{encode}
@@ -10,7 +10,7 @@ use Rattle.unique_names.specs.declared.role.TheConstants.{ROLES}
 use Rattle.unique_names.specs.declared.step.KeyStep.{KeyStep}
 use Rattle.unique_names.specs.Roles.{letter_of}
 use Rattle.unique_names.specs.Names.{numeral, step_text, steps_text, discriminator_of}
-use Rattle.unique_names.proofs.Numerals.{IsDigit, numeral_is_digits, one_number, SplitAlike, digits_end_alike}
+use Rattle.unique_names.proofs.Numerals.{IsDigit, numeral_is_digits, one_number, digits_end_alike}
 
 abbrev lettered : ℕ → Option Role
 lettered c = option_map (λ row. row.0) (find (λ row. row.1 == c) ROLES)
@@ -33,7 +33,7 @@ no_letter_is_a_digit Member d = omega (arith, d.below)
 no_letter_is_a_digit Peer d = omega (arith, d.below)
 no_letter_is_a_digit Extension d = omega (arith, d.below)
 
-letter_is_ascii : (role : Role) → letter_of role < 128
+pub letter_is_ascii : (role : Role) → letter_of role < 128
 letter_is_ascii Expression = omega arith
 letter_is_ascii Declaration = omega arith
 letter_is_ascii Accessor = omega arith

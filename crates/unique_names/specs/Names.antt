@@ -1,5 +1,6 @@
 -- this project's own: the discriminator of a key, by which the names made for one request differ from all others.
 use Rattle.std.specs.Prelude.{◌≡◌, ℕ, zero, suc, ◌+◌, List, [], ◌∷◌, ◌++◌, map, codes}
+use Rattle.std.specs.Str.{IsUtf8}
 use Rattle.std.specs.Int.Digits.{digits_of}
 use Rattle.unique_names.specs.declared.step.KeyStep.{KeyStep}
 use Rattle.unique_names.specs.Roles.{letter_of}
@@ -28,3 +29,7 @@ OneKeyBegins = (a b : List KeyStep) (x y : List ℕ) → discriminator_of a ++ x
 -- no key's discriminator begins another's
 abbrev pub PrefixFree : Type 0
 PrefixFree = (a b : List KeyStep) (x : List ℕ) → discriminator_of a ++ x ≡ discriminator_of b → a ≡ b
+
+-- each discriminator is UTF-8
+abbrev pub DiscriminatorsAreUtf8 : Type 0
+DiscriminatorsAreUtf8 = (steps : List KeyStep) → IsUtf8 (discriminator_of steps)

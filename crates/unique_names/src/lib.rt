@@ -11,6 +11,6 @@ mod step;
 mod tests;
 
 pub use key::{Key, equal_keys_are_one};
-pub use naming::{discriminator, discriminators_are_prefix_free};
+pub use naming::{discriminator, discriminators_are_prefix_free, discriminators_are_utf8};
 pub use role::{ROLES, Role, texts_tell_roles};
 pub use step::KeyStep;

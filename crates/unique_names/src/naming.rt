@@ -1,6 +1,6 @@
 // Discriminators, and that no two keys share the beginning of a word.
 ghost use Rattle.std.specs.Prelude.{◌≡◌, ◌++◌, IfOk, string_bytes};
-ghost use Rattle.unique_names.specs.Names.{numeral, step_text, steps_text, discriminator_of, OneKeyBegins, PrefixFree};
+ghost use Rattle.unique_names.specs.Names.{numeral, step_text, steps_text, discriminator_of, OneKeyBegins, PrefixFree, DiscriminatorsAreUtf8};
 
 use crate::key::Key;
 use crate::step::KeyStep;
@@ -47,4 +47,8 @@ fn put_number(text: &mut String, number: u32) -> Result<(), AllocError>
 pub fn discriminators_are_prefix_free()
     ensures one_key { OneKeyBegins }
     ensures prefix_free { PrefixFree }
+{}
+
+pub fn discriminators_are_utf8()
+    ensures { DiscriminatorsAreUtf8 }
 {}

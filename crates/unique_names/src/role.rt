@@ -16,14 +16,14 @@ pub enum Role {
 }
 
 /// A row for each role, in the order of the roles: its letter in a discriminator, and its text in a message.
-pub const ROLES: [(Role, u8, &[u8]); 7] = [
-    (Role::Expression, b'e', b"expression"),
-    (Role::Declaration, b'd', b"declaration"),
-    (Role::Accessor, b'a', b"accessor"),
-    (Role::MemberAttribute, b't', b"memberAttribute"),
-    (Role::Member, b'm', b"member"),
-    (Role::Peer, b'p', b"peer"),
-    (Role::Extension, b'x', b"extension"),
+pub const ROLES: [(Role, u8, &str); 7] = [
+    (Role::Expression, b'e', "expression"),
+    (Role::Declaration, b'd', "declaration"),
+    (Role::Accessor, b'a', "accessor"),
+    (Role::MemberAttribute, b't', "memberAttribute"),
+    (Role::Member, b'm', "member"),
+    (Role::Peer, b'p', "peer"),
+    (Role::Extension, b'x', "extension"),
 ];
 
 impl Role {
@@ -33,14 +33,14 @@ impl Role {
         ROLES[self as usize].1
     }
 
-    pub fn text(self) -> &'static [u8]
+    pub fn text(self) -> &'static str
         ensures { result.now ≡ text_of self }
     {
         ROLES[self as usize].2
     }
 
     /// The role of this text, if it is one's.
-    pub fn of_text(text: &[u8]) -> Option<Role>
+    pub fn of_text(text: &str) -> Option<Role>
         ensures { result ≡ role_of text.now }
     {
         find_role(&ROLES, text)
@@ -48,7 +48,7 @@ impl Role {
 }
 
 // The role of the first of these rows that has this text.
-fn find_role(rows: &[(Role, u8, &[u8])], text: &[u8]) -> Option<Role>
+fn find_role(rows: &[(Role, u8, &str)], text: &str) -> Option<Role>
     ensures { result ≡ among (λ row. row.0) (λ row. row.2.now) rows.now text.now }
 {
     let (row, rest) = rows.split_first()?;

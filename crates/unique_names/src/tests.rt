@@ -48,7 +48,7 @@ fn each_role_has_its_text(rt: HostRuntime) {
         assert_eq!(rt; Role::of_text(text), Some(role));
         assert_eq!(rt; Role::of_text(role.text()), Some(role));
     }
-    assert_eq!(rt; Role::of_text(b"body"), None);
+    assert_eq!(rt; Role::of_text("body"), None);
 }
 
 #[test]

@@ -1,4 +1,4 @@
-use Rattle.std.proofs.Common.{rules, arith}
+use Rattle.std.proofs.Common.{rules}
 use Rattle.unique_names.specs.Names.{discriminator_of}
 use Rattle.unique_names.proofs.naming.discriminator.Goals as goal
 

@@ -1,5 +1,4 @@
 use Rattle.std.proofs.Common.{rules, arith, ◌<◌, ◌^◌}
-use Rattle.std.proofs.lemmas.Grind.{common_steps}
 use Rattle.unique_names.proofs.Numerals.{numeral_is_decimal}
 use Rattle.unique_names.proofs.naming.put_number.Goals as goal
 

@@ -1,4 +1,4 @@
-use Rattle.std.proofs.Common.{◌≡◌, ◌++◌, string_bytes, List, append_assoc, ◌∙◌}
+use Rattle.std.proofs.Common.{◌≡◌, ◌++◌, string_bytes, append_assoc, ◌∙◌}
 use Rattle.std.proofs.Math.Utf8.{encode}
 use Rattle.unique_names.specs.Roles.{letter_of}
 use Rattle.unique_names.specs.Names.{numeral}

@@ -1,6 +1,5 @@
-use Rattle.std.proofs.Common.{rules, ◌≡◌, ◌++◌, string_bytes, ◌≤◌, ◌<◌, length, arith, ◌∙◌, sym, ap, append_assoc}
+use Rattle.std.proofs.Common.{◌≤◌, ◌<◌, length, arith, append_assoc}
 use Rattle.std.proofs.lemmas.Str.{encode_ascii}
-use Rattle.unique_names.specs.Names.{step_text, steps_text}
 use Rattle.unique_names.proofs.Prefix.{steps_text_at, steps_text_end}
 use Rattle.unique_names.proofs.naming.put_steps.Goals as goal
 

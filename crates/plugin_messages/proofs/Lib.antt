@@ -1,0 +1,10 @@
+pub mod Steps
+pub mod Cases
+pub mod Arrays
+pub mod Members
+pub mod NoFloats
+pub mod Plain
+pub mod PlainParts
+pub mod RoundTrip
+pub mod ReadParts
+pub mod ReadReplies

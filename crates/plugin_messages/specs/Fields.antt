@@ -1,0 +1,64 @@
+-- this project's own, over RFC 8259: a field of an object, by its label. Null counts as absent.
+use Rattle.std.specs.Prelude.{ℕ, List, [], ◌∷◌, Option, Some, None, option_and_then, Result, Ok, Err, nat_lt, if◌then◌else◌}
+use Rattle.serde_json.specs.Data.{Data, null, boolean, number, string, array, object, Items, no_items, item}
+use Rattle.serde_json.specs.Find.{get, as_number, as_u64, as_array}
+use Rattle.plugin_messages.specs.declared.message.Reason.{Reason}
+use Rattle.plugin_messages.specs.declared.message.Reason.TheVariants.{BadField}
+use Rattle.plugin_messages.specs.Answers.{and_then}
+
+abbrev pub unless_null : Data → Option Data
+unless_null null = None
+unless_null (boolean b) = Some (boolean b)
+unless_null (number n) = Some (number n)
+unless_null (string s) = Some (string s)
+unless_null (array ds) = Some (array ds)
+unless_null (object ms) = Some (object ms)
+
+unfoldable pub present : List ℕ → Data → Option Data
+present label d = option_and_then unless_null (get label d)
+
+abbrev pub found_or : {A : Type 0} → Reason → Option A → Result A Reason
+found_or reason None = Err reason
+found_or reason (Some x) = Ok x
+
+abbrev pub or_bad : {A : Type 0} → List ℕ → Option A → Result A Reason
+or_bad label = found_or (BadField label)
+
+-- the field as `take` sees it
+unfoldable pub required : {A : Type 0} → (Data → Option A) → List ℕ → Data → Result A Reason
+required take label d = or_bad label (option_and_then take (present label d))
+
+abbrev pub as_record : Data → Option Data
+as_record null = None
+as_record (boolean b) = None
+as_record (number n) = None
+as_record (string s) = None
+as_record (array ds) = None
+as_record (object ms) = Some (object ms)
+
+-- a whole number that `serde_json` holds as such
+unfoldable pub whole_below : ℕ → Data → Option ℕ
+whole_below limit d = option_and_then (λ n. if nat_lt n limit then Some n else None) (option_and_then as_u64 (as_number d))
+
+-- the object at this label, read inward
+unfoldable pub inside : {A : Type 0} → (Data → Result A Reason) → List ℕ → Data → Result A Reason
+inside from label d = and_then (required as_record label d) from
+
+-- an object that has to stand here, read inward
+abbrev pub element : {A : Type 0} → (Data → Result A Reason) → List ℕ → Data → Result A Reason
+element from label d = and_then (or_bad label (as_record d)) from
+
+abbrev pub inside_if : {A : Type 0} → (Data → Result A Reason) → List ℕ → Option Data → Result (Option A) Reason
+inside_if from label None = Ok None
+inside_if from label (Some d) = and_then (element from label d) (λ x. Ok (Some x))
+
+unfoldable pub optional_inside : {A : Type 0} → (Data → Result A Reason) → List ℕ → Data → Result (Option A) Reason
+optional_inside from label d = inside_if from label (present label d)
+
+-- objects of an array, one after another
+unfoldable pub each : {A : Type 0} → (Data → Result A Reason) → List ℕ → Items → Result (List A) Reason
+each from label no_items = Ok []
+each from label (item d ds) = and_then (element from label d) (λ x. and_then (each from label ds) (λ xs. Ok (x ∷ xs)))
+
+unfoldable pub listed : {A : Type 0} → (Data → Result A Reason) → List ℕ → Data → Result (List A) Reason
+listed from label d = and_then (required as_array label d) (each from label)

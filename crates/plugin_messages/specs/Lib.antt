@@ -1,0 +1,12 @@
+pub mod Answers
+pub mod Tables
+pub mod Fields
+pub mod RequestParts
+pub mod Diagnostics
+pub mod HostOf
+pub mod PluginOf
+pub mod Written
+pub mod Writable
+pub mod RequestBytes
+pub mod ReplyBytes
+pub mod RoundTrip
