@@ -1,6 +1,8 @@
-pub mod Payloads
+pub mod Requests
+pub mod Asked
+pub mod Found
 pub mod Marks
 pub mod Lines
 pub mod Links
-pub mod Asking
 pub mod Promises
+pub mod LastParts

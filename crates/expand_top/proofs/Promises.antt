@@ -4,80 +4,18 @@ use Rattle.swift_base.specs.Told.{then_bytes, Rose}
 use Rattle.swift_base.specs.Outside.{SinkSeen, FilesSeen}
 use Rattle.swift_base.specs.declared.plugins.Plugin.{Plugin}
 use Rattle.expand_top.specs.Answer.{Output, IsSiteOutput, outcome_output}
-use Rattle.expand_top.specs.Form.{text_at}
-use Rattle.expand_top.specs.Promises.{site_in, asked_keys, AskedOnce, Each, IsServed, LinksServe, KeepsOutside, KeepsBytes, StatusHasCause}
-use Rattle.expand_top.specs.Run.{LinkSeen, NothingAsked, IsAsked, of_process, not_started, IsAskedAt, IsExpansionOf, IsExpansion, ReadsSource, IsDelivered, whole, out_failed, err_failed, usage}
-use Rattle.expand_top.specs.Site.{KeySteps, site_of, asked_at, key_of, request_of, sent_for}
+use Rattle.expand_top.specs.Promises.{site_in, KeepsOutside, KeepsBytes, StatusHasCause}
+use Rattle.expand_top.specs.Run.{Asking, IsExpansionOf, IsExpansion, ReadsSource, IsDelivered, whole, out_failed, err_failed, usage}
+use Rattle.expand_top.specs.Site.{site_of}
 use Rattle.expand_top.specs.Source.{Form}
 use Rattle.expand_top.specs.declared.line.MacroUse.{MacroUse}
 use Rattle.expand_top.specs.declared.line.Declaration.{Declaration}
-use Rattle.expand_top.specs.declared.link.Unstarted.{Unstarted}
-use Rattle.expand_top.specs.declared.outcome.Outcome.{Outcome}
-use Rattle.expand_top.specs.declared.outcome.Outcome.TheVariants as outcome
+use Rattle.plugin_messages.specs.declared.message.Outcome.{Outcome}
+use Rattle.plugin_messages.specs.declared.message.Outcome.TheVariants as outcome
 use Rattle.expand_top.specs.declared.site.Site.{Site}
 use Rattle.expand_top.specs.declared.site.Site.TheVariants as site
 use Rattle.expand_top.specs.declared.ended.SourceRead.{SourceRead}
 use Rattle.expand_top.specs.declared.ended.SourceRead.TheVariants as read
-
--- nothing asked is no key
-none_asked : (links : List LinkSeen) (unstarted : List Unstarted) → NothingAsked links unstarted → asked_keys links unstarted ≡ []
-none_asked links unstarted none = rw (none.no_links, none.none_unstarted) refl
-
-key_asked : (key : KeySteps) (module_name sent : List ℕ) (links : List LinkSeen) (unstarted : List Unstarted) (o : Option Outcome)
-    → IsAsked key module_name sent links unstarted o → asked_keys links unstarted ≡ key ∷ []
-key_asked key module_name sent links unstarted o (of_process link o' of_module asked written stopped became) = rw asked refl
-key_asked key module_name sent links unstarted o (not_started entry of_key rose) = ap (λ k. k ∷ []) of_key
-
-site_asked : (name text : List ℕ) (place : Site) (links : List LinkSeen) (unstarted : List Unstarted) (o : Option Outcome)
-    → IsAskedAt name text place links unstarted o → asked_keys links unstarted ≡ asked_at place
-site_asked name text site.Nothing links unstarted o asked = none_asked links unstarted asked
-site_asked name text (site.Unknown macro_use) links unstarted o asked = none_asked links unstarted asked
-site_asked name text (site.NoPlugin macro_use declaration) links unstarted o asked = none_asked links unstarted asked
-site_asked name text (site.Asks macro_use declaration) links unstarted o asked = key_asked _ _ _ links unstarted o asked
-
--- each of no links
-none_served : (name text : List ℕ) (place : Site) (links : List LinkSeen) → links ≡ [] → Each (IsServed name text place) links
-none_served name text place links none = subst (λ l. Each (IsServed name text place) l) (sym none) tt
-
-link_served : (name text : List ℕ) (macro_use : MacroUse) (declaration : Declaration) (links : List LinkSeen) (unstarted : List Unstarted) (o : Option Outcome)
-    → IsAsked (key_of macro_use) (text_at text declaration.module_name) (sent_for (request_of name text macro_use declaration)) links unstarted o
-    → Each (IsServed name text (site.Asks macro_use declaration)) links
-link_served name text macro_use declaration links unstarted o (of_process link o' of_module asked written stopped became) =
-    (record { macro_use = macro_use; declaration = declaration; asks = refl; of_module = of_module; asked = asked; given = written }, tt)
-link_served name text macro_use declaration links unstarted o (not_started entry of_key rose) = tt
-
-site_served : (name text : List ℕ) (place : Site) (links : List LinkSeen) (unstarted : List Unstarted) (o : Option Outcome)
-    → IsAskedAt name text place links unstarted o → Each (IsServed name text place) links
-site_served name text site.Nothing links unstarted o asked = none_served name text site.Nothing links asked.no_links
-site_served name text (site.Unknown macro_use) links unstarted o asked = none_served name text (site.Unknown macro_use) links asked.no_links
-site_served name text (site.NoPlugin macro_use declaration) links unstarted o asked = none_served name text (site.NoPlugin macro_use declaration) links asked.no_links
-site_served name text (site.Asks macro_use declaration) links unstarted o asked = link_served name text macro_use declaration links unstarted o asked
-
--- by whether the source is of the form
-asked_in : (name : List ℕ) (plugins : List Plugin) (text : List ℕ) (form : Option Form) (links : List LinkSeen) (unstarted : List Unstarted) (output : Output)
-    → IsExpansionOf name plugins text form links unstarted output → asked_keys links unstarted ≡ asked_at (site_in text plugins form)
-asked_in name plugins text None links unstarted output is = none_asked links unstarted is.0
-asked_in name plugins text (Some form) links unstarted output is = site_asked name text (site_of text plugins form) links unstarted is.0 is.1
-
-served_in : (name : List ℕ) (plugins : List Plugin) (text : List ℕ) (form : Option Form) (links : List LinkSeen) (unstarted : List Unstarted) (output : Output)
-    → IsExpansionOf name plugins text form links unstarted output → Each (IsServed name text (site_in text plugins form)) links
-served_in name plugins text None links unstarted output is = none_served name text site.Nothing links is.0.no_links
-served_in name plugins text (Some form) links unstarted output is = site_served name text (site_of text plugins form) links unstarted is.0 is.1
-
--- by how the source was read
-pub asked_once : (name : List ℕ) (plugins : List Plugin) (source : SourceRead) (links : List LinkSeen) (unstarted : List Unstarted) (output : Output)
-    → IsExpansion name plugins source links unstarted output → AskedOnce plugins source links unstarted
-asked_once name plugins read.Nothing links unstarted output is = is
-asked_once name plugins read.Failed links unstarted output is = none_asked links unstarted is.0
-asked_once name plugins read.Larger links unstarted output is = none_asked links unstarted is.0
-asked_once name plugins (read.Bytes text) links unstarted output (form, means, is) = (form, means, asked_in name plugins text form links unstarted output is)
-
-pub links_serve : (name : List ℕ) (plugins : List Plugin) (source : SourceRead) (links : List LinkSeen) (unstarted : List Unstarted) (output : Output)
-    → IsExpansion name plugins source links unstarted output → LinksServe name plugins source links
-links_serve name plugins read.Nothing links unstarted output is = is
-links_serve name plugins read.Failed links unstarted output is = none_served name [] site.Nothing links is.0.no_links
-links_serve name plugins read.Larger links unstarted output is = none_served name [] site.Nothing links is.0.no_links
-links_serve name plugins (read.Bytes text) links unstarted output (form, means, is) = (form, means, served_in name plugins text form links unstarted output is)
 
 zero_one : {A : Type 0} (n : ℕ) → n ≡ 1 → n ≡ 0 → A
 zero_one n one zero = absurd (omega arith)
@@ -88,9 +26,9 @@ rejoined before splice behind = ap (λ (l : List ℕ). before ++ (40 ∷ l)) (sy
 outcome_kept : (name text : List ℕ) (macro_use : MacroUse) (declaration : Declaration) (o : Option Outcome) (splice : Option (List ℕ)) (output : Output)
     → output ≡ outcome_output name text macro_use declaration o splice → output.status ≡ 0 → KeepsOutside text (site.Asks macro_use declaration) output.out
 outcome_kept name text macro_use declaration None splice output is zero = zero_one output.status (ap (λ (w : Output). w.status) is) zero
-outcome_kept name text macro_use declaration (Some outcome.NoReply) splice output is zero = zero_one output.status (ap (λ (w : Output). w.status) is) zero
-outcome_kept name text macro_use declaration (Some (outcome.Reply reply)) None output is zero = zero_one output.status (ap (λ (w : Output). w.status) is) zero
-outcome_kept name text macro_use declaration (Some (outcome.Reply reply)) (Some splice) output is zero =
+outcome_kept name text macro_use declaration (Some (outcome.Failed cause)) splice output is zero = zero_one output.status (ap (λ (w : Output). w.status) is) zero
+outcome_kept name text macro_use declaration (Some (outcome.Reply reply diagnostics)) None output is zero = zero_one output.status (ap (λ (w : Output). w.status) is) zero
+outcome_kept name text macro_use declaration (Some (outcome.Reply reply diagnostics)) (Some splice) output is zero =
     (codes "(" ++ (splice ++ codes ")"), ap (λ (w : Output). w.out) is ∙ rejoined (take macro_use.span.start text) splice (drop macro_use.span.end text))
 
 -- what is printed at a site where the status is 0
@@ -108,31 +46,31 @@ delivered_zero out out_after err err_after output status (whole to_out to_err) z
 delivered_zero out out_after err err_after output status (out_failed front same) zero = absurd (omega arith)
 delivered_zero out out_after err err_after output status (err_failed to_out front) zero = absurd (omega arith)
 
-kept_in : (name : List ℕ) (plugins : List Plugin) (text : List ℕ) (form : Option Form) (links : List LinkSeen) (unstarted : List Unstarted) (output : Output)
-    → IsExpansionOf name plugins text form links unstarted output → output.status ≡ 0 → KeepsOutside text (site_in text plugins form) output.out
-kept_in name plugins text None links unstarted output is zero = zero_one output.status (ap (λ (w : Output). w.status) is.1) zero
-kept_in name plugins text (Some form) links unstarted output is zero = site_kept name text (site_of text plugins form) is.0 output is.2 zero
+kept_in : (name : List ℕ) (plugins : List Plugin) (text : List ℕ) (form : Option Form) (asking : Asking) (output : Output)
+    → IsExpansionOf name plugins text form asking output → output.status ≡ 0 → KeepsOutside text (site_in text plugins form) output.out
+kept_in name plugins text None asking output is zero = zero_one output.status (ap (λ (w : Output). w.status) is.1) zero
+kept_in name plugins text (Some form) asking output is zero = site_kept name text (site_of text plugins form) is.0 output is.2 zero
 
-pub keeps_bytes : (name : List ℕ) (plugins : List Plugin) (source : SourceRead) (links : List LinkSeen) (unstarted : List Unstarted) (output : Output)
+pub keeps_bytes : (name : List ℕ) (plugins : List Plugin) (source : SourceRead) (asking : Asking) (output : Output)
     (out out_after err err_after : SinkSeen) (status : ℕ)
-    → IsExpansion name plugins source links unstarted output → IsDelivered out out_after err err_after output status
+    → IsExpansion name plugins source asking output → IsDelivered out out_after err err_after output status
     → KeepsBytes plugins source status out out_after
-keeps_bytes name plugins read.Nothing links unstarted output out out_after err err_after status is delivered zero = is
-keeps_bytes name plugins read.Failed links unstarted output out out_after err err_after status is delivered zero =
+keeps_bytes name plugins read.Nothing asking output out out_after err err_after status is delivered zero = is
+keeps_bytes name plugins read.Failed asking output out out_after err err_after status is delivered zero =
     absurd (omega (arith, ap (λ (w : Output). w.status) is.1, (delivered_zero out out_after err err_after output status delivered zero).0))
-keeps_bytes name plugins read.Larger links unstarted output out out_after err err_after status is delivered zero =
+keeps_bytes name plugins read.Larger asking output out out_after err err_after status is delivered zero =
     absurd (omega (arith, ap (λ (w : Output). w.status) is.1, (delivered_zero out out_after err err_after output status delivered zero).0))
-keeps_bytes name plugins (read.Bytes text) links unstarted output out out_after err err_after status (form, means, is) delivered zero =
+keeps_bytes name plugins (read.Bytes text) asking output out out_after err err_after status (form, means, is) delivered zero =
     let wrote = delivered_zero out out_after err err_after output status delivered zero in
-    (form, means, (output.out, kept_in name plugins text form links unstarted output is wrote.0, wrote.1))
+    (form, means, (output.out, kept_in name plugins text form asking output is wrote.0, wrote.1))
 
 -- the status of what is to be written
 outcome_status : (name text : List ℕ) (macro_use : MacroUse) (declaration : Declaration) (o : Option Outcome) (splice : Option (List ℕ))
     → (outcome_output name text macro_use declaration o splice).status < 2
 outcome_status name text macro_use declaration None splice = omega arith
-outcome_status name text macro_use declaration (Some outcome.NoReply) splice = omega arith
-outcome_status name text macro_use declaration (Some (outcome.Reply reply)) None = omega arith
-outcome_status name text macro_use declaration (Some (outcome.Reply reply)) (Some splice) = omega arith
+outcome_status name text macro_use declaration (Some (outcome.Failed cause)) splice = omega arith
+outcome_status name text macro_use declaration (Some (outcome.Reply reply diagnostics)) None = omega arith
+outcome_status name text macro_use declaration (Some (outcome.Reply reply diagnostics)) (Some splice) = omega arith
 
 site_status : (name text : List ℕ) (place : Site) (o : Option Outcome) (output : Output) → IsSiteOutput name text place o output → output.status < 2
 site_status name text site.Nothing o output is = omega (arith, ap (λ (w : Output). w.status) is)
@@ -141,19 +79,19 @@ site_status name text (site.NoPlugin macro_use declaration) o output is = omega 
 site_status name text (site.Asks macro_use declaration) o output is =
     omega (arith, ap (λ (w : Output). w.status) is.2, outcome_status name text macro_use declaration o is.0)
 
-form_status : (name : List ℕ) (plugins : List Plugin) (text : List ℕ) (form : Option Form) (links : List LinkSeen) (unstarted : List Unstarted) (output : Output)
-    → IsExpansionOf name plugins text form links unstarted output → output.status < 2
-form_status name plugins text None links unstarted output is = omega (arith, ap (λ (w : Output). w.status) is.1)
-form_status name plugins text (Some form) links unstarted output is = site_status name text (site_of text plugins form) is.0 output is.2
+form_status : (name : List ℕ) (plugins : List Plugin) (text : List ℕ) (form : Option Form) (asking : Asking) (output : Output)
+    → IsExpansionOf name plugins text form asking output → output.status < 2
+form_status name plugins text None asking output is = omega (arith, ap (λ (w : Output). w.status) is.1)
+form_status name plugins text (Some form) asking output is = site_status name text (site_of text plugins form) is.0 output is.2
 
 -- its status is 0 or 1, or 3 where the source could not be read
-output_status : (name : List ℕ) (plugins : List Plugin) (source : SourceRead) (links : List LinkSeen) (unstarted : List Unstarted) (output : Output) (files files_after : FilesSeen)
-    → IsExpansion name plugins source links unstarted output → ReadsSource files files_after name source
+output_status : (name : List ℕ) (plugins : List Plugin) (source : SourceRead) (asking : Asking) (output : Output) (files files_after : FilesSeen)
+    → IsExpansion name plugins source asking output → ReadsSource files files_after name source
     → ((output.status < 2) × (files_after.faults ≡ files.faults)) ⊎ ((output.status ≡ 3) × Rose files.faults files_after.faults)
-output_status name plugins read.Nothing links unstarted output files files_after is reads = absurd is
-output_status name plugins read.Failed links unstarted output files files_after is reads = inr (ap (λ (w : Output). w.status) is.1, reads.0)
-output_status name plugins read.Larger links unstarted output files files_after is reads = inl (omega (arith, ap (λ (w : Output). w.status) is.1), reads.0)
-output_status name plugins (read.Bytes text) links unstarted output files files_after is reads = inl (form_status name plugins text is.0 links unstarted output is.2, reads.0)
+output_status name plugins read.Nothing asking output files files_after is reads = absurd is
+output_status name plugins read.Failed asking output files files_after is reads = inr (ap (λ (w : Output). w.status) is.1, reads.0)
+output_status name plugins read.Larger asking output files files_after is reads = inl (omega (arith, ap (λ (w : Output). w.status) is.1), reads.0)
+output_status name plugins (read.Bytes text) asking output files files_after is reads = inl (form_status name plugins text is.0 asking output is.2, reads.0)
 
 whole_cause : (files files_after : FilesSeen) (out out_after err err_after : SinkSeen) (status : ℕ) → out_after.faults ≡ out.faults → err_after.faults ≡ err.faults
     → ((status < 2) × (files_after.faults ≡ files.faults)) ⊎ ((status ≡ 3) × Rose files.faults files_after.faults) → StatusHasCause status files files_after out out_after err err_after
@@ -188,15 +126,15 @@ four_cause files files_after out out_after err err_after cause = record {
   err_fails = λ rose. refl;
 }
 
-pub status_has_cause : (name : List ℕ) (plugins : List Plugin) (source : SourceRead) (links : List LinkSeen) (unstarted : List Unstarted) (output : Output)
+pub status_has_cause : (name : List ℕ) (plugins : List Plugin) (source : SourceRead) (asking : Asking) (output : Output)
     (files files_after : FilesSeen) (out out_after err err_after : SinkSeen) (status : ℕ)
-    → IsExpansion name plugins source links unstarted output → ReadsSource files files_after name source → IsDelivered out out_after err err_after output status
+    → IsExpansion name plugins source asking output → ReadsSource files files_after name source → IsDelivered out out_after err err_after output status
     → StatusHasCause status files files_after out out_after err err_after
-status_has_cause name plugins source links unstarted output files files_after out out_after err err_after status is reads (whole to_out to_err) =
-    whole_cause files files_after out out_after err err_after output.status to_out.faults to_err.faults (output_status name plugins source links unstarted output files files_after is reads)
-status_has_cause name plugins source links unstarted output files files_after out out_after err err_after status is reads (out_failed front same) =
+status_has_cause name plugins source asking output files files_after out out_after err err_after status is reads (whole to_out to_err) =
+    whole_cause files files_after out out_after err err_after output.status to_out.faults to_err.faults (output_status name plugins source asking output files files_after is reads)
+status_has_cause name plugins source asking output files files_after out out_after err err_after status is reads (out_failed front same) =
     four_cause files files_after out out_after err err_after (inl front.faults)
-status_has_cause name plugins source links unstarted output files files_after out out_after err err_after status is reads (err_failed to_out front) =
+status_has_cause name plugins source asking output files files_after out out_after err err_after status is reads (err_failed to_out front) =
     four_cause files files_after out out_after err err_after (inr front.faults)
 
 -- a run that wrote doesn't answer want of memory

@@ -12,8 +12,9 @@ use Rattle.expand_top.specs.declared.line.Declaration.{Declaration}
 use Rattle.expand_top.specs.declared.site.Site.{Site}
 use Rattle.expand_top.specs.declared.site.Site.TheVariants as site
 use Rattle.expand_top.specs.declared.report.Output as code
-use Rattle.expand_top.specs.declared.outcome.Outcome.{Outcome}
-use Rattle.expand_top.specs.declared.outcome.Outcome.TheVariants as outcome
+use Rattle.plugin_messages.specs.declared.message.Diagnostic.{Diagnostic}
+use Rattle.plugin_messages.specs.declared.message.Outcome.{Outcome}
+use Rattle.plugin_messages.specs.declared.message.Outcome.TheVariants as outcome
 
 -- what is written to standard output, to standard error, and the status
 pub record Output : Type 0 where
@@ -90,11 +91,17 @@ pub data IsSplice (reply : List ℕ) : Option (List ℕ) → Type 0 where
   read : (elements : Option (List Tree)) (splice : Option (List ℕ)) → length reply ≤ 4194304 → HasElements reply elements
       → splice ≡ option_and_then (expression_in reply) elements → IsSplice reply splice
 
+-- the same of a reply: one without a text or with a diagnostic isn't put in yet
+abbrev pub IsReplySplice : Option (List ℕ) → List Diagnostic → Option (List ℕ) → Type 0
+IsReplySplice None diagnostics splice = splice ≡ None
+IsReplySplice (Some text) [] splice = IsSplice text splice
+IsReplySplice (Some text) (diagnostic ∷ diagnostics) splice = splice ≡ None
+
 -- the same of an outcome, which may have no reply
 abbrev pub IsSpliceOf : Option Outcome → Option (List ℕ) → Type 0
 IsSpliceOf None splice = splice ≡ None
-IsSpliceOf (Some outcome.NoReply) splice = splice ≡ None
-IsSpliceOf (Some (outcome.Reply reply)) splice = IsSplice reply splice
+IsSpliceOf (Some (outcome.Failed cause)) splice = splice ≡ None
+IsSpliceOf (Some (outcome.Reply text diagnostics)) splice = IsReplySplice text diagnostics splice
 
 -- the source with the use's bytes replaced
 abbrev pub expanded : List ℕ → MacroUse → List ℕ → List ℕ
@@ -106,9 +113,9 @@ reply_output name text macro_use (Some splice) = prints (expanded text macro_use
 
 abbrev pub outcome_output : List ℕ → List ℕ → MacroUse → Declaration → Option Outcome → Option (List ℕ) → Output
 outcome_output name text macro_use declaration None splice = refuses name 1 1 too_many_bytes
-outcome_output name text macro_use declaration (Some outcome.NoReply) splice =
+outcome_output name text macro_use declaration (Some (outcome.Failed cause)) splice =
     refuses_at name text macro_use.span.start (no_reply (text_at text declaration.module_name))
-outcome_output name text macro_use declaration (Some (outcome.Reply reply)) splice = reply_output name text macro_use splice
+outcome_output name text macro_use declaration (Some (outcome.Reply reply diagnostics)) splice = reply_output name text macro_use splice
 
 abbrev pub unknown_output : List ℕ → List ℕ → MacroUse → Output
 unknown_output name text macro_use = refuses_at name text macro_use.span.start (no_macro (text_at text macro_use.name))

@@ -1,7 +1,7 @@
 -- The command that words mean. This project's own.
 use Rattle.std.specs.Prelude.{ℕ, ◌+◌, ◌==◌, ◌&&◌, ◌||◌, not, nat_lt, Bool, true, false, if◌then◌else◌, Option, Some, None, option_map, List, [], ◌∷◌, length, codes, position, take, drop}
 use Rattle.std.specs.Char.{is_ascii_alphabetic, is_ascii_alphanumeric}
-use Rattle.std.specs.List.{list_all}
+use Rattle.std.specs.List.{list_all, position_or_len, before_first, after_first}
 use Rattle.std.specs.Str.{bytes_eq}
 use Rattle.swift_base.specs.declared.plugins.Plugin.{Plugin}
 use Rattle.expand_top.specs.declared.command.Command.{Command}
@@ -12,6 +12,10 @@ abbrev pub is_plain : List ℕ → Bool
 is_plain [] = false
 is_plain (first ∷ []) = true
 is_plain (first ∷ more) = not (first == 45)
+
+abbrev pub is_empty : List ℕ → Bool
+is_empty [] = true
+is_empty (first ∷ more) = false
 
 abbrev pub begins_module : ℕ → Bool
 begins_module first = is_ascii_alphabetic first || first == 95
@@ -24,16 +28,17 @@ abbrev pub is_module : List ℕ → Bool
 is_module [] = false
 is_module (first ∷ more) = begins_module first && list_all continues_module more
 
--- MODULE=COMMAND, split at its first `=`
-abbrev pub plugin_at : List ℕ → Option ℕ → Option Plugin
-plugin_at word None = None
-plugin_at word (Some equals) =
-    if is_module (take equals word) && nat_lt (equals + 1) (length word)
-    then Some (record { «module» = take equals word; command = drop (equals + 1) word })
-    else None
+-- the first `=` stands in the word, behind a module and before a command
+abbrev pub names_plugin : List ℕ → Bool
+names_plugin word =
+    nat_lt (position_or_len (λ b. b == 61) word) (length word) && is_module (before_first (λ b. b == 61) word) && not (is_empty (after_first (λ b. b == 61) word))
 
+-- MODULE=COMMAND, split at its first `=`
 abbrev pub plugin_of : List ℕ → Option Plugin
-plugin_of word = plugin_at word (position (λ b. b == 61) word)
+plugin_of word =
+    if names_plugin word
+    then Some (record { «module» = before_first (λ b. b == 61) word; command = after_first (λ b. b == 61) word })
+    else None
 
 abbrev pub expands : List ℕ → List ℕ → Option (List Plugin) → Option Command
 expands verb source None = None

@@ -3,8 +3,8 @@ pub mod Command
 pub mod Elements
 pub mod Form
 pub mod Link
-pub mod Payload
 pub mod Promises
 pub mod Run
 pub mod Site
 pub mod Source
+pub mod Starts

@@ -6,7 +6,7 @@ use Rattle.swift_base.specs.Outside.{SinkSeen, FilesSeen}
 use Rattle.swift_base.specs.declared.plugins.Plugin.{Plugin}
 use Rattle.expand_top.specs.Form.{text_at}
 use Rattle.expand_top.specs.Link.{IsWritten}
-use Rattle.expand_top.specs.Run.{LinkSeen}
+use Rattle.expand_top.specs.Run.{LinkSeen, Asking}
 use Rattle.expand_top.specs.Site.{KeySteps, site_of, asked_at, key_of, request_of, sent_for}
 use Rattle.expand_top.specs.Source.{Form, IsForm}
 use Rattle.expand_top.specs.declared.line.MacroUse.{MacroUse}
@@ -30,12 +30,12 @@ OfSource plugins read.Larger P = P [] site.Nothing
 OfSource plugins (read.Bytes text) P = (form : Option Form) × IsForm text form × P text (site_in text plugins form)
 
 -- the keys that were asked, of processes and of starts that failed
-abbrev pub asked_keys : List LinkSeen → List Unstarted → List KeySteps
-asked_keys links unstarted = flat_map (λ link. link.asked) links ++ map (λ entry. entry.key) unstarted
+abbrev pub asked_keys : Asking → List KeySteps
+asked_keys asking = flat_map (λ link. link.asked) asking.links ++ map (λ entry. entry.key) asking.unstarted
 
 -- Each request of the source was asked once, and no other was.
-abbrev pub AskedOnce : List Plugin → SourceRead → List LinkSeen → List Unstarted → Type 0
-AskedOnce plugins source links unstarted = OfSource plugins source (λ text place. asked_keys links unstarted ≡ asked_at place)
+abbrev pub AskedOnce : List Plugin → SourceRead → Asking → Type 0
+AskedOnce plugins source asking = OfSource plugins source (λ text place. asked_keys asking ≡ asked_at place)
 
 abbrev pub Each : {A : Type 0} → (A → Type 0) → List A → Type 0
 Each P [] = Unit {0}
@@ -51,8 +51,8 @@ pub record IsServed (name text : List ℕ) (place : Site) (link : LinkSeen) : Ty
   pub given : IsWritten (sent_for (request_of name text macro_use declaration)) link.write_failed link.writer
 
 -- Each process was asked for its own module, and was given the greeting's and the request's frame, byte for byte.
-abbrev pub LinksServe : List ℕ → List Plugin → SourceRead → List LinkSeen → Type 0
-LinksServe name plugins source links = OfSource plugins source (λ text place. Each (IsServed name text place) links)
+abbrev pub LinksServe : List ℕ → List Plugin → SourceRead → Asking → Type 0
+LinksServe name plugins source asking = OfSource plugins source (λ text place. Each (IsServed name text place) asking.links)
 
 -- The bytes are the source's outside the use.
 abbrev pub KeepsOutside : List ℕ → Site → List ℕ → Type 0

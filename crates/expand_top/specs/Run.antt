@@ -1,18 +1,19 @@
 -- What one call of the program does. This project's own.
 use Rattle.std.specs.Prelude.{◌≡◌, ℕ, ◌<◌, ◌≤◌, ◌++◌, Bool, Option, Some, None, List, [], ◌∷◌, length, take, codes}
-use Rattle.swift_base.specs.Told.{then_bytes, then_name, Rose}
-use Rattle.swift_base.specs.Outside.{SourceSeen, SinkSeen, FilesSeen, HasContent}
+use Rattle.swift_base.specs.Told.{prepend, then_bytes, then_name, Rose}
+use Rattle.swift_base.specs.Outside.{SourceSeen, SinkSeen, FilesSeen, StarterSeen, HasContent, TakesLink, then_started, then_failed}
 use Rattle.swift_base.specs.declared.plugins.Plugin.{Plugin}
 use Rattle.expand_top.specs.Answer.{Output, refuses, not_built, IsSiteOutput}
 use Rattle.expand_top.specs.Form.{text_at}
-use Rattle.expand_top.specs.Link.{StopHasCause, IsWritten, IsLinkOutcome}
-use Rattle.expand_top.specs.Site.{KeySteps, site_of, key_of, request_of, sent_for}
+use Rattle.expand_top.specs.Link.{StopHasCause, IsWritten, IsLinkOutcome, no_reply}
+use Rattle.expand_top.specs.Site.{KeySteps, site_of, plugin_for, key_of, request_of, sent_for}
 use Rattle.expand_top.specs.Source.{Form, IsForm}
 use Rattle.expand_top.specs.declared.link.Stop.{Stop}
 use Rattle.expand_top.specs.declared.link.Closed.{Closed}
 use Rattle.expand_top.specs.declared.link.Unstarted.{Unstarted}
-use Rattle.expand_top.specs.declared.outcome.Outcome.{Outcome}
-use Rattle.expand_top.specs.declared.outcome.Outcome.TheVariants as outcome
+use Rattle.plugin_messages.specs.declared.message.Outcome.{Outcome}
+use Rattle.expand_top.specs.declared.line.MacroUse.{MacroUse}
+use Rattle.expand_top.specs.declared.line.Declaration.{Declaration}
 use Rattle.expand_top.specs.declared.site.Site.{Site}
 use Rattle.expand_top.specs.declared.site.Site.TheVariants as site
 use Rattle.expand_top.specs.declared.ended.SourceRead.{SourceRead}
@@ -49,47 +50,99 @@ ReadsSource before after name read.Larger =
 ReadsSource before after name (read.Bytes text) =
     (after.faults ≡ before.faults) × (after.names ≡ then_name before.names name) × (length text ≤ 4194304) × HasContent before.contents name (λ bytes. text ≡ bytes)
 
--- nothing was asked
-pub record NothingAsked (links : List LinkSeen) (unstarted : List Unstarted) : Type 0 where
-  pub no_links : links ≡ []
-  pub none_unstarted : unstarted ≡ []
+-- What was asked: the processes and the failed starts that are handed back, and the starter before and after.
+pub record Asking : Type 0 where
+  pub links : List LinkSeen
+  pub unstarted : List Unstarted
+  pub before : StarterSeen
+  pub after : StarterSeen
 
--- A request was asked once: of one process of its module, which was given it and has this outcome, or one start failed.
-pub data IsAsked (key : KeySteps) (module_name sent : List ℕ) : List LinkSeen → List Unstarted → Option Outcome → Type 0 where
-  of_process : (link : LinkSeen) (o : Option Outcome) → link.module_name ≡ module_name → link.asked ≡ key ∷ []
-      → IsWritten sent link.write_failed link.writer → StopHasCause link.reader (length link.got) link.stop
-      → IsLinkOutcome link.write_failed link.got link.stop o → IsAsked key module_name sent (link ∷ []) [] o
-  not_started : (unstarted : Unstarted) → unstarted.key ≡ key → Rose unstarted.before unstarted.after
-      → IsAsked key module_name sent [] (unstarted ∷ []) (Some outcome.NoReply)
+abbrev pub asking_of : List LinkSeen → List Unstarted → StarterSeen → StarterSeen → Asking
+asking_of links unstarted before after = record { links = links; unstarted = unstarted; before = before; after = after }
+
+-- nothing was asked, and nothing was started
+pub record NothingAsked (asking : Asking) : Type 0 where
+  pub no_links : asking.links ≡ []
+  pub none_unstarted : asking.unstarted ≡ []
+  pub untouched : asking.after ≡ asking.before
+
+-- A process of this module was started by its command, asked for one key, and given this; what is handed back is
+-- what its reader gave.
+pub record IsProcess (key : KeySteps) (module_name command sent : List ℕ) (before after : StarterSeen) (link : LinkSeen) : Type 0 where
+  pub of_module : link.module_name ≡ module_name
+  pub asked : link.asked ≡ key ∷ []
+  pub written : IsWritten sent link.write_failed link.writer
+  pub stopped : StopHasCause link.reader (length link.got) link.stop
+  pub link_taken : TakesLink before.links after.links (prepend link.got link.reader.left)
+  pub commands : after.commands ≡ then_started before.commands command
+  pub faults : before.faults ≤ after.faults
+
+-- One process was spoken with: what it gave and what is left of it are what its reader had.
+pub record IsSpokenWith (key : KeySteps) (module_name sent : List ℕ) (left : Option (List ℕ)) (links : List LinkSeen) (unstarted : List Unstarted)
+    (o : Option Outcome) : Type 0 where
+  pub link : LinkSeen
+  pub one : links ≡ link ∷ []
+  pub none : unstarted ≡ []
+  pub of_module : link.module_name ≡ module_name
+  pub asked : link.asked ≡ key ∷ []
+  pub written : IsWritten sent link.write_failed link.writer
+  pub stopped : StopHasCause link.reader (length link.got) link.stop
+  pub given : left ≡ prepend link.got link.reader.left
+  pub became : IsLinkOutcome link.write_failed link.got link.stop o
+
+-- A start for this key failed, with the starter's counts around it.
+pub record IsFailedStart (key : KeySteps) (command : List ℕ) (before after : StarterSeen) (entry : Unstarted) : Type 0 where
+  pub of_key : entry.key ≡ key
+  pub count_before : entry.before ≡ before.faults
+  pub count_after : entry.after ≡ after.faults
+  pub rose : Rose before.faults after.faults
+  pub faults : before.faults ≤ after.faults
+  pub links : after.links ≡ before.links
+  pub commands : after.commands ≡ then_failed before.commands command
+
+-- A request was asked once: of one process of its module, or one start failed.
+pub data IsAsked (key : KeySteps) (module_name command sent : List ℕ) (asking : Asking) : Option Outcome → Type 0 where
+  of_process : (link : LinkSeen) (o : Option Outcome) → asking.links ≡ link ∷ [] → asking.unstarted ≡ []
+      → IsProcess key module_name command sent asking.before asking.after link
+      → IsLinkOutcome link.write_failed link.got link.stop o → IsAsked key module_name command sent asking o
+  not_started : (entry : Unstarted) → asking.links ≡ [] → asking.unstarted ≡ entry ∷ []
+      → IsFailedStart key command asking.before asking.after entry → IsAsked key module_name command sent asking (Some no_reply)
+
+-- the request of a use was asked of its module's plug-in
+pub record IsAskedFor (name : List ℕ) (plugins : List Plugin) (text : List ℕ) (macro_use : MacroUse) (declaration : Declaration)
+    (asking : Asking) (o : Option Outcome) : Type 0 where
+  pub plugin : Plugin
+  pub of_module : plugin_for (text_at text declaration.module_name) plugins ≡ Some plugin
+  pub asked : IsAsked (key_of macro_use) (text_at text declaration.module_name) plugin.command
+      (sent_for (request_of name text macro_use declaration)) asking o
 
 -- what was asked at a site
-abbrev pub IsAskedAt : List ℕ → List ℕ → Site → List LinkSeen → List Unstarted → Option Outcome → Type 0
-IsAskedAt name text site.Nothing links unstarted o = NothingAsked links unstarted
-IsAskedAt name text (site.Unknown macro_use) links unstarted o = NothingAsked links unstarted
-IsAskedAt name text (site.NoPlugin macro_use declaration) links unstarted o = NothingAsked links unstarted
-IsAskedAt name text (site.Asks macro_use declaration) links unstarted o =
-    IsAsked (key_of macro_use) (text_at text declaration.module_name) (sent_for (request_of name text macro_use declaration)) links unstarted o
+abbrev pub IsAskedAt : List ℕ → List Plugin → List ℕ → Site → Asking → Option Outcome → Type 0
+IsAskedAt name plugins text site.Nothing asking o = NothingAsked asking
+IsAskedAt name plugins text (site.Unknown macro_use) asking o = NothingAsked asking
+IsAskedAt name plugins text (site.NoPlugin macro_use declaration) asking o = NothingAsked asking
+IsAskedAt name plugins text (site.Asks macro_use declaration) asking o = IsAskedFor name plugins text macro_use declaration asking o
 
 -- the expansion of a source of the form that is read so far
-abbrev pub IsExpansionAt : List ℕ → List ℕ → Site → List LinkSeen → List Unstarted → Output → Type 0
-IsExpansionAt name text site links unstarted output =
-    (o : Option Outcome) × IsAskedAt name text site links unstarted o × IsSiteOutput name text site o output
+abbrev pub IsExpansionAt : List ℕ → List Plugin → List ℕ → Site → Asking → Output → Type 0
+IsExpansionAt name plugins text site asking output =
+    (o : Option Outcome) × IsAskedAt name plugins text site asking o × IsSiteOutput name text site o output
 
-abbrev pub IsExpansionOf : List ℕ → List Plugin → List ℕ → Option Form → List LinkSeen → List Unstarted → Output → Type 0
-IsExpansionOf name plugins text None links unstarted output = NothingAsked links unstarted × (output ≡ refuses name 1 1 not_built)
-IsExpansionOf name plugins text (Some form) links unstarted output = IsExpansionAt name text (site_of text plugins form) links unstarted output
+abbrev pub IsExpansionOf : List ℕ → List Plugin → List ℕ → Option Form → Asking → Output → Type 0
+IsExpansionOf name plugins text None asking output = NothingAsked asking × (output ≡ refuses name 1 1 not_built)
+IsExpansionOf name plugins text (Some form) asking output = IsExpansionAt name plugins text (site_of text plugins form) asking output
 
 -- what is written where the source could not be read
 abbrev pub unread : List ℕ → Output
 unread name = record { out = []; err = name ++ codes ": the file could not be read\n"; status = 3 }
 
 -- What is asked and written, by how the source was read.
-abbrev pub IsExpansion : List ℕ → List Plugin → SourceRead → List LinkSeen → List Unstarted → Output → Type 0
-IsExpansion name plugins read.Nothing links unstarted output = ⊥
-IsExpansion name plugins read.Failed links unstarted output = NothingAsked links unstarted × (output ≡ unread name)
-IsExpansion name plugins read.Larger links unstarted output = NothingAsked links unstarted × (output ≡ refuses name 1 1 not_built)
-IsExpansion name plugins (read.Bytes text) links unstarted output =
-    (form : Option Form) × IsForm text form × IsExpansionOf name plugins text form links unstarted output
+abbrev pub IsExpansion : List ℕ → List Plugin → SourceRead → Asking → Output → Type 0
+IsExpansion name plugins read.Nothing asking output = ⊥
+IsExpansion name plugins read.Failed asking output = NothingAsked asking × (output ≡ unread name)
+IsExpansion name plugins read.Larger asking output = NothingAsked asking × (output ≡ refuses name 1 1 not_built)
+IsExpansion name plugins (read.Bytes text) asking output =
+    (form : Option Form) × IsForm text form × IsExpansionOf name plugins text form asking output
 
 -- a stream gained all of the bytes
 pub record GainsAll (before after : SinkSeen) (bytes : List ℕ) : Type 0 where
@@ -130,10 +183,10 @@ pub record IsRefused {A B : Type 0} (out out_after err err_after : SinkSeen) (st
 
 -- A source was read, expanded, and what came of it was written.
 pub record Expands (name : List ℕ) (plugins : List Plugin) (files files_after : FilesSeen) (out out_after err err_after : SinkSeen)
-    (status : ℕ) (source : SourceRead) (links : List LinkSeen) (unstarted : List Unstarted) : Type 0 where
+    (status : ℕ) (source : SourceRead) (asking : Asking) : Type 0 where
   pub reads : ReadsSource files files_after name source
   pub output : Output
-  pub expands : IsExpansion name plugins source links unstarted output
+  pub expands : IsExpansion name plugins source asking output
   pub delivered : IsDelivered out out_after err err_after output status
 
 -- nothing was written to either stream

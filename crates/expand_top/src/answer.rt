@@ -1,14 +1,14 @@
 // What is written for a source.
 ghost use Rattle.std.specs.Prelude.{◌≡◌, ◌<◌, ◌-◌, ◌^◌, IfOk, length, option_map};
-ghost use Rattle.expand_top.specs.Answer.{reply_output, outcome_output, unknown_output, no_plugin_output, IsSiteOutput, output_seen, refuses_at, no_reply, IsSplice, IsSpliceOf};
+ghost use Rattle.expand_top.specs.Answer.{reply_output, outcome_output, unknown_output, no_plugin_output, IsSiteOutput, output_seen, refuses_at, no_reply, IsReplySplice, IsSpliceOf};
 ghost use Rattle.expand_top.specs.Form.{text_at};
 
 use crate::elements::part;
 use crate::line::{Declaration, MacroUse};
-use crate::outcome::Outcome;
 use crate::report::{Output, prints, quoting, refuses, refuses_at};
 use crate::site::Site;
 use crate::splice::{expanded, splice_of};
+use plugin_messages::{Diagnostic, Outcome};
 use std::alloc::{AllocError, Global};
 use swift_base::Text;
 
@@ -68,8 +68,30 @@ fn outcome_output(
 {
     match outcome {
         None => refuses(alloc, name, 1, 1, TOO_MANY_BYTES),
-        Some(Outcome::NoReply) => no_reply_output(alloc, name, text, macro_use, declaration),
-        Some(Outcome::Reply(reply)) => answered_output(alloc, name, text, macro_use, &reply),
+        Some(Outcome::Failed(_)) => no_reply_output(alloc, name, text, macro_use, declaration),
+        Some(
+            Outcome::Reply {
+                text: reply,
+                diagnostics,
+            },
+        ) => answered_output(alloc, name, text, macro_use, reply, diagnostics.items()),
+    }
+}
+
+// What of a reply is put in: nothing yet of one without a text or with a diagnostic.
+fn reply_splice(
+    alloc: Global,
+    reply: Option<Text>,
+    diagnostics: &[Diagnostic],
+) -> Result<Option<Vec<u8>>, AllocError>
+    ensures { IfOk result (λ splice. IsReplySplice reply diagnostics.now (option_map (λ v. v.items) splice)) }
+{
+    let Some(text) = reply else {
+        return Ok(None);
+    };
+    match diagnostics {
+        [] => splice_of(alloc, text.bytes()),
+        [_, ..] => Ok(None),
     }
 }
 
@@ -78,13 +100,14 @@ fn answered_output(
     name: &[u8],
     text: &[u8],
     macro_use: MacroUse,
-    reply: &Text,
+    reply: Option<Text>,
+    diagnostics: &[Diagnostic],
 ) -> Result<Output, AllocError>
     requires { length text.now < 2 ^ 32 - 1 }
-    ensures { IfOk result (λ output. (splice : _) × IsSplice reply.now splice
+    ensures { IfOk result (λ output. (splice : _) × IsReplySplice reply diagnostics.now splice
         × (output_seen output ≡ reply_output name.now text.now macro_use splice)) }
 {
-    let splice = splice_of(alloc, reply.bytes())?;
+    let splice = reply_splice(alloc, reply, diagnostics)?;
     let output = reply_output(alloc, name, text, macro_use, splice)?;
     Ok(output)
 }

@@ -1,6 +1,7 @@
 // The words of the command line.
-ghost use Rattle.std.specs.Prelude.{◌≡◌, ◌==◌, ◌∷◌, [], Some, None, IfOk, position, string_bytes, option_map};
-ghost use Rattle.std.specs.List.{list_all};
+ghost use Rattle.std.specs.Prelude.{◌≡◌, ◌==◌, ◌∷◌, [], Some, None, IfOk, IfSome, position, string_bytes, option_map};
+ghost use Rattle.std.specs.List.{All, list_all};
+ghost use Rattle.expand_top.specs.Site.{IsStartable};
 ghost use Rattle.expand_top.specs.declared.command.Command.TheVariants.{Expand};
 ghost use Rattle.expand_top.specs.Command.{plugin_of, plugins_of, begins_module, continues_module, is_module, is_plain, expands};
 
@@ -51,39 +52,33 @@ fn is_plain(word: &[u8]) -> bool
     }
 }
 
-fn equals_of(word: &[u8]) -> Option<usize>
-    ensures { result ≡ position (λ b. b == 61) word.now }
-{
-    word.iter().position(|b| *b == b'=')
-}
-
 // MODULE=COMMAND, split at its first `=`.
-fn plugin_of(alloc: Global, word: &[u8]) -> Result<Option<Plugin>, AllocError>
-    ensures { IfOk result (λ plugin. plugin ≡ plugin_of word.now) }
+fn plugin_of(alloc: Global, word: &str) -> Result<Option<Plugin>, AllocError>
+    ensures plugin { IfOk result (λ plugin. plugin ≡ plugin_of word.now) }
+    ensures startable { IfOk result (λ plugin. IfSome plugin IsStartable) }
 {
-    let Some(equals) = equals_of(word) else {
+    let Some((module, command)) = word.split_once('=') else {
         return Ok(None);
     };
-    if word.len() - equals < 2 {
+    if command.is_empty() || !is_module(module.as_bytes()) {
         return Ok(None);
     }
-    let (module, command) = (&word[..equals], &word[equals + 1..]);
-    if !is_module(module) {
-        return Ok(None);
-    }
-    let module = Text::from_bytes(alloc, module)?;
-    let command = Text::from_bytes(alloc, command)?;
+    let module = Text::from_bytes(alloc, module.as_bytes())?;
+    let command = Text::from_bytes(alloc, command.as_bytes())?;
     Ok(Some(Plugin { module, command }))
 }
 
 fn no_plugins(alloc: Global) -> Plugins
-    ensures { result ≡ [] }
+    ensures plugins { result ≡ [] }
+    ensures startable { All IsStartable result }
 {
     Plugins::new(Vec::new(alloc))
 }
 
 fn one_plugin(alloc: Global, plugin: Plugin) -> Result<Plugins, AllocError>
-    ensures { IfOk result (λ plugins. plugins ≡ plugin ∷ []) }
+    requires { IsStartable plugin }
+    ensures plugins { IfOk result (λ plugins. plugins ≡ plugin ∷ []) }
+    ensures startable { IfOk result (All IsStartable) }
 {
     let mut list = Vec::new(alloc);
     list.push(plugin)?;
@@ -91,12 +86,13 @@ fn one_plugin(alloc: Global, plugin: Plugin) -> Result<Plugins, AllocError>
 }
 
 fn plugins_of(alloc: Global, word: Option<&String>) -> Result<Option<Plugins>, AllocError>
-    ensures { IfOk result (λ plugins. plugins ≡ plugins_of (option_map (λ w. string_bytes w.now) word.entry)) }
+    ensures plugins { IfOk result (λ plugins. plugins ≡ plugins_of (option_map (λ w. string_bytes w.now) word.entry)) }
+    ensures startable { IfOk result (λ plugins. IfSome plugins (All IsStartable)) }
 {
     let Some(word) = word else {
         return Ok(Some(no_plugins(alloc)));
     };
-    match plugin_of(alloc, word.as_bytes())? {
+    match plugin_of(alloc, word.as_str())? {
         Some(plugin) => Ok(Some(one_plugin(alloc, plugin)?)),
         None => Ok(None),
     }
@@ -109,8 +105,9 @@ pub fn named_plugins(
     source: &String,
     plugin: Option<&String>,
 ) -> Result<Option<Plugins>, AllocError>
-    ensures { IfOk result (λ plugins. expands (string_bytes verb.now) (string_bytes source.now)
+    ensures plugins { IfOk result (λ plugins. expands (string_bytes verb.now) (string_bytes source.now)
         (plugins_of (option_map (λ w. string_bytes w.now) plugin.entry)) ≡ option_map (Expand (string_bytes source.now)) plugins) }
+    ensures startable { IfOk result (λ plugins. IfSome plugins (All IsStartable)) }
 {
     let Some(plugins) = plugins_of(alloc, plugin)? else {
         return Ok(None);

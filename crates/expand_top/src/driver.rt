@@ -1,28 +1,27 @@
 // The top call.
 ghost use Rattle.std.specs.Prelude.{◌≡◌, ◌≢◌, ◌≤◌, ◌<◌, ◌^◌, ◌-◌, [], ◌∷◌, ◌++◌, ℕ, List, Option, Some, None, length, map, IfOk, IfSome, IfNone, OnOk, OnErr, string_bytes, option_map, codes};
 ghost use Rattle.swift_base.specs.Told.{Rose};
-ghost use Rattle.swift_base.specs.Outside.{IsFreshWriter};
 ghost use Rattle.swift_base.specs.declared.plugins.Plugin.{Plugin};
 ghost use Rattle.expand_top.specs.declared.command.Command.TheVariants as Command;
 ghost use Rattle.expand_top.specs.Command.{command_of, expands, plugins_of};
-ghost use Rattle.expand_top.specs.Run.{IsDelivered, GainsAll, GainsFront, ReadsSource, IsAsked, IsAskedAt, IsExpansionAt, IsExpansionOf, IsExpansion, NothingAsked, CanExpand, IsRefused, IsUnwritten, Expands, link_seen, unread, usage};
+ghost use Rattle.expand_top.specs.Run.{IsDelivered, GainsAll, GainsFront, ReadsSource, IsExpansionAt, IsExpansionOf, IsExpansion, NothingAsked, CanExpand, IsRefused, IsUnwritten, Expands, asking_of, link_seen, unread, usage};
 ghost use Rattle.expand_top.specs.Promises.{AskedOnce, LinksServe, KeepsBytes, StatusHasCause};
+ghost use Rattle.expand_top.specs.Site.{HasPlugin, IsStartable};
+ghost use Rattle.expand_top.specs.Starts.{Starts, StopsHaveCause, FailedStartsHaveCause};
+ghost use Rattle.std.specs.List.{All};
 ghost use Rattle.expand_top.specs.Answer.{output_seen, refuses, not_built, IsSiteOutput};
 ghost use Rattle.expand_top.specs.Source.{Form, form_seen, IsForm};
 
 use crate::answer::{NOT_BUILT, site_output};
+use crate::asking::ask_at;
 use crate::command::named_plugins;
 use crate::ended::{Ended, SourceRead};
 use crate::form::read_form;
-use crate::link::{Closed, Spoken, Unstarted, outcome_of, speak};
-use crate::outcome::Outcome;
+use crate::link::{Closed, Unstarted};
 use crate::report::{Output, refuses};
-use crate::site::{Site, copied, key_of, request_of, sent_for, site_of};
+use crate::site::{Site, site_of};
 use std::alloc::{AllocError, Global};
-use swift_base::{
-    FileFault, Files, Plugins, Sink, Source, StartFault, Starter, Text, WriteFault, write_all,
-};
-use unique_names::Key;
+use swift_base::{FileFault, Files, Plugin, Plugins, Sink, Starter, Text, WriteFault, write_all};
 
 /// What is written for words that are no command. It names what is still to come, too.
 pub const USAGE: &[u8] = b"\
@@ -68,141 +67,6 @@ fn read_source<F: Files>(alloc: Global, files: &mut F, name: &str) -> Result<Sou
     }
 }
 
-// What was asked, and what became of it.
-#[derive(Drop)]
-struct Asked<W: Drop, R: Drop> {
-    links: Vec<Closed<W, R>>,
-    unstarted: Vec<Unstarted>,
-    outcome: Option<Outcome>,
-}
-
-fn nothing_asked<W: Drop, R: Drop>(alloc: Global) -> Asked<W, R>
-    ensures links { result.links.items ≡ [] }
-    ensures unstarted { result.unstarted.items ≡ [] }
-{
-    Asked {
-        links: Vec::new(alloc),
-        unstarted: Vec::new(alloc),
-        outcome: None,
-    }
-}
-
-// One request: of a process that is started for it, or none where the start fails.
-fn ask<P: Starter>(
-    alloc: Global,
-    starter: &mut P,
-    command: &str,
-    key: Key,
-    module_name: Text,
-    sent: &[u8],
-) -> Result<Asked<P::Writer, P::Reader>, AllocError>
-    ensures { IfOk result (λ a. IsAsked key module_name sent.now
-        (map (link_seen P.Writer.seen P.Reader.seen) a.links.items) a.unstarted.items a.outcome) }
-{
-    let before = starter.faults();
-    match starter.start(alloc, command) {
-        Ok((writer, reader)) => ask_process(alloc, key, module_name, sent, writer, reader),
-        Err(StartFault::Memory) => Err(AllocError),
-        Err(StartFault::Failed) => {
-            let after = starter.faults();
-            let unstarted = one(alloc, Unstarted { key, before, after })?;
-            Ok(Asked {
-                links: Vec::new(alloc),
-                unstarted,
-                outcome: Some(Outcome::NoReply),
-            })
-        }
-    }
-}
-
-fn one<X: Drop>(alloc: Global, item: X) -> Result<Vec<X>, AllocError>
-    ensures { IfOk result (λ v. v.items ≡ item ∷ []) }
-{
-    let mut list = Vec::new(alloc);
-    list.push(item)?;
-    Ok(list)
-}
-
-fn ask_process<W: Sink, R: Source>(
-    alloc: Global,
-    key: Key,
-    module_name: Text,
-    sent: &[u8],
-    writer: W,
-    reader: R,
-) -> Result<Asked<W, R>, AllocError>
-    requires { IsFreshWriter (W.seen writer) }
-    ensures { IfOk result (λ a. IsAsked key module_name sent.now
-        (map (link_seen W.seen R.seen) a.links.items) a.unstarted.items a.outcome) }
-{
-    let asked = one(alloc, key)?;
-    let spoken = speak(alloc, writer, reader, sent)?;
-    let outcome = outcome_of(alloc, spoken.write_failed, &spoken.got, spoken.stop)?;
-    let links = one(alloc, closed(module_name, asked, spoken))?;
-    let unstarted = Vec::new(alloc);
-    Ok(Asked {
-        links,
-        unstarted,
-        outcome,
-    })
-}
-
-fn closed<W: Drop, R: Drop>(
-    module_name: Text,
-    asked: Vec<Key>,
-    spoken: Spoken<W, R>,
-) -> Closed<W, R>
-    ensures { result ≡ record {
-      module_name = module_name;
-      asked = asked;
-      got = spoken.got;
-      stop = spoken.stop;
-      write_failed = spoken.write_failed;
-      writer = spoken.writer;
-      reader = spoken.reader;
-    } }
-{
-    let Spoken {
-        got,
-        stop,
-        write_failed,
-        writer,
-        reader,
-    } = spoken;
-    Closed {
-        module_name,
-        asked,
-        got,
-        stop,
-        write_failed,
-        writer,
-        reader,
-    }
-}
-
-// What was asked at a site.
-fn ask_at<P: Starter>(
-    alloc: Global,
-    starter: &mut P,
-    command: &str,
-    name: &str,
-    text: &[u8],
-    site: Site,
-) -> Result<Asked<P::Writer, P::Reader>, AllocError>
-    requires { length text.now < 2 ^ 32 - 1 }
-    ensures { IfOk result (λ a. IsAskedAt name.now text.now site
-        (map (link_seen P.Writer.seen P.Reader.seen) a.links.items) a.unstarted.items a.outcome) }
-{
-    let Site::Asks(macro_use, declaration) = site else {
-        return Ok(nothing_asked(alloc));
-    };
-    let request = request_of(alloc, name.as_bytes(), text, macro_use, declaration)?;
-    let sent = sent_for(alloc, &request)?;
-    let key = key_of(alloc, macro_use)?;
-    let module_name = copied(alloc, text, declaration.module_name)?;
-    ask(alloc, starter, command, key, module_name, &sent)
-}
-
 // What is handed back and written.
 #[derive(Drop)]
 struct Expansion<W: Drop, R: Drop> {
@@ -244,16 +108,18 @@ fn unread(alloc: Global, name: &str) -> Result<Output, AllocError>
 fn expand_site<P: Starter>(
     alloc: Global,
     starter: &mut P,
-    command: &str,
     name: &str,
+    plugins: &[Plugin],
     text: &[u8],
     site: Site,
 ) -> Result<Expansion<P::Writer, P::Reader>, AllocError>
-    requires { length text.now < 2 ^ 32 - 1 }
-    ensures { IfOk result (λ e. IsExpansionAt name.now text.now site
-        (map (link_seen P.Writer.seen P.Reader.seen) e.links.items) e.unstarted.items (output_seen e.output)) }
+    requires short { length text.now < 2 ^ 32 - 1 }
+    requires commands { All IsStartable plugins.now }
+    requires served { HasPlugin text.now plugins.now site }
+    ensures { IfOk result (λ e. IsExpansionAt name.now plugins.now text.now site
+        (asking_of (map (link_seen P.Writer.seen P.Reader.seen) e.links.items) e.unstarted.items (P.seen starter.old) (P.seen starter.new)) (output_seen e.output)) }
 {
-    let asked = ask_at(alloc, starter, command, name, text, site)?;
+    let asked = ask_at(alloc, starter, name, plugins, text, site)?;
     let output = site_output(alloc, name.as_bytes(), text, site, asked.outcome)?;
     let (links, unstarted) = (asked.links, asked.unstarted);
     Ok(Expansion {
@@ -267,42 +133,40 @@ fn expand_site<P: Starter>(
 fn expand_text<P: Starter>(
     alloc: Global,
     starter: &mut P,
-    command: &str,
     name: &str,
     plugins: &Plugins,
     text: &[u8],
 ) -> Result<Expansion<P::Writer, P::Reader>, AllocError>
-    requires { length text.now ≤ 4194304 }
+    requires short { length text.now ≤ 4194304 }
+    requires commands { All IsStartable plugins.now }
     ensures { IfOk result (λ e. (form : Option Form) × IsForm text.now form × IsExpansionOf name.now plugins.now text.now form
-        (map (link_seen P.Writer.seen P.Reader.seen) e.links.items) e.unstarted.items (output_seen e.output)) }
+        (asking_of (map (link_seen P.Writer.seen P.Reader.seen) e.links.items) e.unstarted.items (P.seen starter.old) (P.seen starter.new)) (output_seen e.output)) }
 {
     let Some(form) = read_form(alloc, text)? else {
         return Ok(without_asking(alloc, not_built_yet(alloc, name)?));
     };
     let site = site_of(text, plugins.list(), &form);
-    expand_site(alloc, starter, command, name, text, site)
+    expand_site(alloc, starter, name, plugins.list(), text, site)
 }
 
 // What is asked and written, by how the source was read.
 fn expand_read<P: Starter>(
     alloc: Global,
     starter: &mut P,
-    command: &str,
     name: &str,
     plugins: &Plugins,
     read: &SourceRead,
 ) -> Result<Expansion<P::Writer, P::Reader>, AllocError>
-    requires { CanExpand read.now }
+    requires can { CanExpand read.now }
+    requires commands { All IsStartable plugins.now }
     ensures { IfOk result (λ e. IsExpansion name.now plugins.now read.now
-        (map (link_seen P.Writer.seen P.Reader.seen) e.links.items) e.unstarted.items (output_seen e.output)) }
+        (asking_of (map (link_seen P.Writer.seen P.Reader.seen) e.links.items) e.unstarted.items (P.seen starter.old) (P.seen starter.new)) (output_seen e.output)) }
 {
     match read {
         SourceRead::Nothing => unreachable!(),
         SourceRead::Failed => Ok(without_asking(alloc, unread(alloc, name)?)),
         SourceRead::Larger => Ok(without_asking(alloc, not_built_yet(alloc, name)?)),
-        SourceRead::Bytes(text) => {
-            expand_text(alloc, starter, command, name, plugins, text.bytes())
-        }
+        SourceRead::Bytes(text) => { expand_text(alloc, starter, name, plugins, text.bytes()) }
     }
 }
 
@@ -316,28 +180,18 @@ struct Done<W: Drop, R: Drop> {
 fn expand<F: Files, P: Starter>(
     alloc: Global,
     name: &str,
-    command: &str,
     plugins: &Plugins,
     files: &mut F,
     starter: &mut P,
 ) -> Result<Done<P::Writer, P::Reader>, AllocError>
+    requires { All IsStartable plugins.now }
     ensures read { IfOk result (λ d. ReadsSource (F.seen files.old) (F.seen files.new) name.now d.read) }
     ensures expansion { IfOk result (λ d. IsExpansion name.now plugins.now d.read
-        (map (link_seen P.Writer.seen P.Reader.seen) d.expansion.links.items) d.expansion.unstarted.items (output_seen d.expansion.output)) }
+        (asking_of (map (link_seen P.Writer.seen P.Reader.seen) d.expansion.links.items) d.expansion.unstarted.items (P.seen starter.old) (P.seen starter.new)) (output_seen d.expansion.output)) }
 {
     let read = read_source(alloc, files, name)?;
-    let expansion = expand_read(alloc, starter, command, name, plugins, &read)?;
+    let expansion = expand_read(alloc, starter, name, plugins, &read)?;
     Ok(Done { read, expansion })
-}
-
-fn command_word(plugin: Option<&String>) -> &str {
-    let Some(word) = plugin else {
-        return "";
-    };
-    match word.as_str().split_once('=') {
-        Some((_, command)) => command,
-        None => "",
-    }
 }
 
 fn usage(alloc: Global) -> Result<Output, AllocError>
@@ -387,19 +241,19 @@ fn refuse<W: Drop, R: Drop, O: Sink, E: Sink>(
 fn run_expand<F: Files, O: Sink, E: Sink, P: Starter>(
     alloc: Global,
     name: &str,
-    command: &str,
     plugins: &Plugins,
     files: &mut F,
     out: &mut O,
     err: &mut E,
     starter: &mut P,
 ) -> Ended<P::Writer, P::Reader>
+    requires { All IsStartable plugins.now }
     ensures memory { result.status ≡ 5 → IsUnwritten (O.seen out.old) (O.seen out.new) (E.seen err.old) (E.seen err.new) }
     ensures expanded { (result.status ≡ 5 → ⊥) → Expands name.now plugins.now (F.seen files.old) (F.seen files.new)
         (O.seen out.old) (O.seen out.new) (E.seen err.old) (E.seen err.new) result.status result.read
-        (map (link_seen P.Writer.seen P.Reader.seen) result.links.items) result.unstarted.items }
+        (asking_of (map (link_seen P.Writer.seen P.Reader.seen) result.links.items) result.unstarted.items (P.seen starter.old) (P.seen starter.new)) }
 {
-    let Ok(done) = expand(alloc, name, command, plugins, files, starter) else {
+    let Ok(done) = expand(alloc, name, plugins, files, starter) else {
         return out_of_memory(alloc);
     };
     let status = deliver(out, err, &done.expansion.output);
@@ -429,7 +283,7 @@ fn run_words<F: Files, O: Sink, E: Sink, P: Starter>(
         → expands (string_bytes verb.now) (string_bytes source.now) (plugins_of (option_map (λ w. string_bytes w.now) plugin.entry)) ≡ Some (Command.Expand name plugins)
         → (result.status ≡ 5 → ⊥) → Expands name plugins (F.seen files.old) (F.seen files.new)
         (O.seen out.old) (O.seen out.new) (E.seen err.old) (E.seen err.new) result.status result.read
-        (map (link_seen P.Writer.seen P.Reader.seen) result.links.items) result.unstarted.items }
+        (asking_of (map (link_seen P.Writer.seen P.Reader.seen) result.links.items) result.unstarted.items (P.seen starter.old) (P.seen starter.new)) }
     ensures memory { result.status ≡ 5 → IsUnwritten (O.seen out.old) (O.seen out.new) (E.seen err.old) (E.seen err.new) }
 {
     let Ok(named) = named_plugins(alloc, verb, source, plugin) else {
@@ -438,8 +292,7 @@ fn run_words<F: Files, O: Sink, E: Sink, P: Starter>(
     let Some(plugins) = named else {
         return refuse(alloc, out, err);
     };
-    let (name, command) = (source.as_str(), command_word(plugin));
-    run_expand(alloc, name, command, &plugins, files, out, err, starter)
+    run_expand(alloc, source.as_str(), &plugins, files, out, err, starter)
 }
 
 /// Does what the words after the program's name ask for: `expand SOURCE [MODULE=COMMAND]`.
@@ -462,13 +315,23 @@ pub fn run<T: AllocGlobal + Copy + Drop, F: Files, O: Sink, E: Sink, P: Starter>
     ensures output { (name : List ℕ) (plugins : List Plugin) → command_of (map string_bytes words.now) ≡ Some (Command.Expand name plugins)
         → (result.status ≡ 5 → ⊥) → Expands name plugins (F.seen files.old) (F.seen files.new)
         (O.seen out.old) (O.seen out.new) (E.seen err.old) (E.seen err.new) result.status result.read
-        (map (link_seen P.Writer.seen P.Reader.seen) result.links.items) result.unstarted.items }
+        (asking_of (map (link_seen P.Writer.seen P.Reader.seen) result.links.items) result.unstarted.items (P.seen starter.old) (P.seen starter.new)) }
     ensures asked_once { (name : List ℕ) (plugins : List Plugin) → command_of (map string_bytes words.now) ≡ Some (Command.Expand name plugins)
         → (result.status ≡ 5 → ⊥) → AskedOnce plugins result.read
-        (map (link_seen P.Writer.seen P.Reader.seen) result.links.items) result.unstarted.items }
+        (asking_of (map (link_seen P.Writer.seen P.Reader.seen) result.links.items) result.unstarted.items (P.seen starter.old) (P.seen starter.new)) }
     ensures links_serve { (name : List ℕ) (plugins : List Plugin) → command_of (map string_bytes words.now) ≡ Some (Command.Expand name plugins)
         → (result.status ≡ 5 → ⊥) → LinksServe name plugins result.read
-        (map (link_seen P.Writer.seen P.Reader.seen) result.links.items) }
+        (asking_of (map (link_seen P.Writer.seen P.Reader.seen) result.links.items) result.unstarted.items (P.seen starter.old) (P.seen starter.new)) }
+    // What was read and started is what the starter tells, and each stop and each failed start has its cause.
+    ensures started { (name : List ℕ) (plugins : List Plugin) → command_of (map string_bytes words.now) ≡ Some (Command.Expand name plugins)
+        → (result.status ≡ 5 → ⊥) → Starts plugins result.read
+        (asking_of (map (link_seen P.Writer.seen P.Reader.seen) result.links.items) result.unstarted.items (P.seen starter.old) (P.seen starter.new)) }
+    ensures stops { (name : List ℕ) (plugins : List Plugin) → command_of (map string_bytes words.now) ≡ Some (Command.Expand name plugins)
+        → (result.status ≡ 5 → ⊥) → StopsHaveCause (map (link_seen P.Writer.seen P.Reader.seen) result.links.items) }
+    ensures failed_starts { (name : List ℕ) (plugins : List Plugin) → command_of (map string_bytes words.now) ≡ Some (Command.Expand name plugins)
+        → (result.status ≡ 5 → ⊥) → FailedStartsHaveCause
+        (asking_of (map (link_seen P.Writer.seen P.Reader.seen) result.links.items) result.unstarted.items (P.seen starter.old) (P.seen starter.new)) }
+
     ensures kept { (name : List ℕ) (plugins : List Plugin) → command_of (map string_bytes words.now) ≡ Some (Command.Expand name plugins)
         → (result.status ≡ 5 → ⊥) → KeepsBytes plugins result.read result.status (O.seen out.old) (O.seen out.new) }
     ensures status { (name : List ℕ) (plugins : List Plugin) → command_of (map string_bytes words.now) ≡ Some (Command.Expand name plugins)

@@ -4,6 +4,7 @@
 #![tactic(auto)]
 
 mod answer;
+mod asking;
 mod command;
 mod driver;
 mod elements;
@@ -11,8 +12,6 @@ mod ended;
 mod form;
 mod line;
 mod link;
-mod outcome;
-mod payload;
 mod report;
 mod site;
 mod splice;

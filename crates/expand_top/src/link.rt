@@ -1,15 +1,15 @@
 // One process: what it is given, and what it gives.
 ghost use Rattle.std.specs.Prelude.{◌≡◌, ◌≤◌, ◌<◌, ℕ, Bool, List, length, IfOk, None};
 ghost use Rattle.swift_base.specs.Told.{Tells, prepend};
-ghost use Rattle.swift_base.specs.Outside.{IsFreshWriter};
-ghost use Rattle.expand_top.specs.Link.{StopHasCause, IsGiven, IsWritten, Gains, is_length, missing_by, IsReplied, IsAnswered, IsLinkOutcome};
+ghost use Rattle.swift_base.specs.Outside.{IsFreshWriter, IsFreshReader};
+ghost use Rattle.expand_top.specs.Link.{StopHasCause, HasNotStopped, IsGiven, IsWritten, Gains, is_length, missing_by, reply_outcome, is_capability, replied, answered, IsLinkOutcome};
+ghost use Rattle.plugin_messages.specs.PluginOf.{plugin_message_of};
 ghost use Rattle.plugin_frames.specs.Frames.{Tail, IsFrames};
 ghost use Rattle.plugin_frames.specs.Cutting.{payloads_of};
 
 use crate::elements::behind;
-use crate::outcome::Outcome;
-use crate::payload::{answers_greeting, reply_text};
-use plugin_frames::{FrameReader, Refusal, frames_are_read};
+use plugin_frames::{FrameReader, Refusal as FrameRefusal, frames_are_read};
+use plugin_messages::{Cause, Outcome, PluginMessage, Refusal, read_plugin};
 use std::alloc::{AllocError, Global};
 use swift_base::{Sink, Source, Text, write_all};
 use unique_names::Key;
@@ -50,8 +50,9 @@ const PIECE: usize = 4096;
 
 // Reads one piece; the stop, where it came instead.
 fn read_piece<R: Source>(reader: &mut R, got: &mut Vec<u8>) -> Result<Option<Stop>, AllocError>
+    requires { HasNotStopped (R.seen reader.old) }
     ensures more { IfOk result (λ stop. stop ≡ None
-        → (length got.old.items ≤ MOST_BYTES) × (length got.old.items < length got.new.items)) }
+        → (length got.old.items ≤ MOST_BYTES) × (length got.old.items < length got.new.items) × HasNotStopped (R.seen reader.new)) }
     ensures cause { IfOk result (λ stop. Tells stop (StopHasCause (R.seen reader.new) (length got.new.items))) }
     ensures gains { IfOk result (λ _. Gains (R.seen reader.old) got.old.items (R.seen reader.new) got.new.items) }
 {
@@ -71,6 +72,7 @@ fn read_piece<R: Source>(reader: &mut R, got: &mut Vec<u8>) -> Result<Option<Sto
 
 // Reads on to the stop.
 fn read_to_stop<R: Source>(reader: &mut R, got: &mut Vec<u8>) -> Result<Stop, AllocError>
+    requires { HasNotStopped (R.seen reader.old) }
     ensures cause { IfOk result (StopHasCause (R.seen reader.new) (length got.new.items)) }
     ensures gains { IfOk result (λ _. Gains (R.seen reader.old) got.old.items (R.seen reader.new) got.new.items) }
 {
@@ -87,6 +89,8 @@ fn await_reply<R: Source>(
     reader: &mut R,
     got: &mut Vec<u8>,
 ) -> Result<Option<Stop>, AllocError>
+    requires { HasNotStopped (R.seen reader.old) }
+    ensures goes_on { IfOk result (λ stop. stop ≡ None → HasNotStopped (R.seen reader.new)) }
     ensures cause { IfOk result (λ stop. Tells stop (StopHasCause (R.seen reader.new) (length got.new.items))) }
     ensures gains { IfOk result (λ _. Gains (R.seen reader.old) got.old.items (R.seen reader.new) got.new.items) }
 {
@@ -141,6 +145,8 @@ fn await_unless<R: Source>(
     reader: &mut R,
     got: &mut Vec<u8>,
 ) -> Result<Option<Stop>, AllocError>
+    requires { HasNotStopped (R.seen reader.old) }
+    ensures goes_on { IfOk result (λ stop. stop ≡ None → HasNotStopped (R.seen reader.new)) }
     ensures cause { IfOk result (λ stop. Tells stop (StopHasCause (R.seen reader.new) (length got.new.items))) }
     ensures gains { IfOk result (λ _. Gains (R.seen reader.old) got.old.items (R.seen reader.new) got.new.items) }
 {
@@ -155,7 +161,8 @@ fn stop_after<R: Source>(
     reader: &mut R,
     got: &mut Vec<u8>,
 ) -> Result<Stop, AllocError>
-    requires { Tells early (StopHasCause (R.seen reader.old) (length got.old.items)) }
+    requires stopped { Tells early (StopHasCause (R.seen reader.old) (length got.old.items)) }
+    requires goes_on { early ≡ None → HasNotStopped (R.seen reader.old) }
     ensures cause { IfOk result (StopHasCause (R.seen reader.new) (length got.new.items)) }
     ensures gains { IfOk result (λ _. Gains (R.seen reader.old) got.old.items (R.seen reader.new) got.new.items) }
 {
@@ -172,7 +179,8 @@ pub fn speak<W: Sink, R: Source>(
     mut reader: R,
     sent: &[u8],
 ) -> Result<Spoken<W, R>, AllocError>
-    requires { IsFreshWriter (W.seen writer) }
+    requires writer { IsFreshWriter (W.seen writer) }
+    requires reader { IsFreshReader (R.seen reader) }
     ensures written { IfOk result (λ s. IsWritten sent.now s.write_failed (W.seen s.writer)) }
     ensures stopped { IfOk result (λ s. StopHasCause (R.seen s.reader) (length s.got.items) s.stop) }
     ensures given { IfOk result (λ s. (R.seen reader).left ≡ prepend s.got.items (R.seen s.reader).left) }
@@ -199,8 +207,8 @@ fn payloads_of(alloc: Global, got: &[u8]) -> Result<(Vec<Vec<u8>>, bool), AllocE
     let mut payloads = Vec::new(alloc);
     match frames.feed(got, &mut payloads) {
         Ok(()) => Ok((payloads, false)),
-        Err(Refusal::Memory) => Err(AllocError),
-        Err(Refusal::Fault(_)) => Ok((payloads, true)),
+        Err(FrameRefusal::Memory) => Err(AllocError),
+        Err(FrameRefusal::Fault(_)) => Ok((payloads, true)),
     }
 }
 
@@ -208,11 +216,37 @@ fn missing(too_long: bool, stop: Stop) -> Option<Outcome>
     ensures { result ≡ missing_by too_long stop }
 {
     if too_long {
-        return Some(Outcome::NoReply);
+        return Some(Outcome::Failed(Cause::NoReply));
     }
     match stop {
-        Stop::Ended | Stop::Failed => Some(Outcome::NoReply),
+        Stop::Ended | Stop::Failed => Some(Outcome::Failed(Cause::NoReply)),
         Stop::Overrun => None,
+    }
+}
+
+#[tactic(auto, unfolding(crate::specs::Link::reply_outcome))]
+fn reply_outcome(alloc: Global, payload: &[u8]) -> Result<Outcome, AllocError>
+    ensures { IfOk result (λ o. o ≡ reply_outcome (plugin_message_of payload.now)) }
+{
+    match read_plugin(alloc, payload) {
+        Ok(PluginMessage::Result { text, diagnostics }) => Ok(Outcome::Reply { text, diagnostics }),
+        Ok(PluginMessage::Capability { .. }) => Ok(Outcome::Failed(Cause::NoReply)),
+        Ok(PluginMessage::Loaded { .. }) => Ok(Outcome::Failed(Cause::NoReply)),
+        Err(Refusal::Fault(_)) => Ok(Outcome::Failed(Cause::NoReply)),
+        Err(Refusal::Memory) => Err(AllocError),
+    }
+}
+
+#[tactic(auto, unfolding(crate::specs::Link::is_capability))]
+fn is_capability(alloc: Global, payload: &[u8]) -> Result<bool, AllocError>
+    ensures { IfOk result (λ is. is ≡ is_capability (plugin_message_of payload.now)) }
+{
+    match read_plugin(alloc, payload) {
+        Ok(PluginMessage::Capability { .. }) => Ok(true),
+        Ok(PluginMessage::Result { .. }) => Ok(false),
+        Ok(PluginMessage::Loaded { .. }) => Ok(false),
+        Err(Refusal::Fault(_)) => Ok(false),
+        Err(Refusal::Memory) => Err(AllocError),
     }
 }
 
@@ -222,15 +256,12 @@ fn replied(
     too_long: bool,
     stop: Stop,
 ) -> Result<Option<Outcome>, AllocError>
-    ensures { IfOk result (IsReplied (payloads_of payloads.now) too_long stop) }
+    ensures { IfOk result (λ o. o ≡ replied (payloads_of payloads.now) too_long stop) }
 {
     let Some(payload) = payloads.first() else {
         return Ok(missing(too_long, stop));
     };
-    match reply_text(alloc, payload)? {
-        Some(text) => Ok(Some(Outcome::Reply(text))),
-        None => Ok(Some(Outcome::NoReply)),
-    }
+    Ok(Some(reply_outcome(alloc, payload)?))
 }
 
 fn answered(
@@ -239,13 +270,13 @@ fn answered(
     too_long: bool,
     stop: Stop,
 ) -> Result<Option<Outcome>, AllocError>
-    ensures { IfOk result (IsAnswered (payloads_of payloads.now) too_long stop) }
+    ensures { IfOk result (λ o. o ≡ answered (payloads_of payloads.now) too_long stop) }
 {
     let Some((greeting, others)) = payloads.split_first() else {
         return Ok(missing(too_long, stop));
     };
-    if !answers_greeting(alloc, greeting)? {
-        return Ok(Some(Outcome::NoReply));
+    if !is_capability(alloc, greeting)? {
+        return Ok(Some(Outcome::Failed(Cause::NoReply)));
     }
     replied(alloc, others, too_long, stop)
 }
@@ -260,7 +291,7 @@ pub fn outcome_of(
     ensures { IfOk result (IsLinkOutcome write_failed got.now stop) }
 {
     if write_failed {
-        return Ok(Some(Outcome::NoReply));
+        return Ok(Some(Outcome::Failed(Cause::NoReply)));
     }
     let (payloads, too_long) = payloads_of(alloc, got)?;
     answered(alloc, &payloads, too_long, stop)

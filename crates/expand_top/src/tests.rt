@@ -230,13 +230,25 @@ fn refusals_of_a_source(rt: HostRuntime) -> Result<(), Fail> {
     Ok(())
 }
 
+// What the expansion of `stringify` writes where a process gives these bytes.
+fn expect_line(rt: HostRuntime, gives: &str, line: &str) -> Result<(), Fail> {
+    let alloc = rt.alloc();
+    let source = joined(alloc, &[DECLARATION, "let r = #stringify(a + b)\n"])?;
+    let script = Some((gives, Vec::new(alloc)));
+    let none = Vec::new(alloc);
+    let words = "expand r.swift SampleMacros=plug";
+    let ran = run_on(rt, words, Some(&source), script, none)?;
+    expect(&rt, &ran, 1, "", line);
+    Ok(())
+}
+
 #[test]
 fn bad_replies_are_no_reply(rt: HostRuntime) -> Result<(), Fail> {
     let alloc = rt.alloc();
-    let source = joined(alloc, &[DECLARATION, "let r = #stringify(a + b)\n"])?;
     let cut = joined(alloc, &[GREETED, "N\0\0\0\0\0\0\0{\"expandMacroResult\""])?;
     let empty = joined(alloc, &[GREETED, "\u{2}\0\0\0\0\0\0\0{}"])?;
     let no_greeting = joined(alloc, &["\u{2}\0\0\0\0\0\0\0{}", REPLIED])?;
+    let greeted_twice = joined(alloc, &[GREETED, GREETED])?;
     let no_reply = "r.swift:2:9: error: plug-in 'SampleMacros' gave no reply\n";
     for gives in [
         "",
@@ -244,12 +256,23 @@ fn bad_replies_are_no_reply(rt: HostRuntime) -> Result<(), Fail> {
         cut.as_str(),
         empty.as_str(),
         no_greeting.as_str(),
+        greeted_twice.as_str(),
     ] {
-        let script = Some((gives, Vec::new(alloc)));
-        let none = Vec::new(alloc);
-        let words = "expand r.swift SampleMacros=plug";
-        let ran = run_on(rt, words, Some(&source), script, none)?;
-        expect(&rt, &ran, 1, "", no_reply);
+        expect_line(rt, gives, no_reply)?;
+    }
+    Ok(())
+}
+
+#[test]
+fn replies_without_a_text_or_with_a_diagnostic_wait(rt: HostRuntime) -> Result<(), Fail> {
+    let alloc = rt.alloc();
+    let no_text = "(\0\0\0\0\0\0\0{\"expandMacroResult\":{\"diagnostics\":[]}}";
+    let warned =
+        "\u{1}\u{1}\0\0\0\0\0\0{\"expandMacroResult\":{\"diagnostics\":[{\"fixIts\":[],\"highlights\":[],\"message\":\"the value is named twice here; it will be worked out once, and shown one time\",\"notes\":[],\"position\":{\"fileName\":\"r.swift\",\"offset\":8},\"severity\":\"warning\"}],\"expandedSource\":\"1\"}}";
+    let line = "r.swift:2:9: error: this form is not built yet\n";
+    for reply in [no_text, warned] {
+        let gives = joined(alloc, &[GREETED, reply])?;
+        expect_line(rt, &gives, line)?;
     }
     Ok(())
 }
