@@ -1,15 +1,14 @@
 -- What was asked keeps the promises of processes, starts and stops.
-use Rattle.std.proofs.Common.{◌≡◌, ℕ, ◌≤◌, ◌++◌, Option, Some, None, option_map, List, [], ◌∷◌, map, refl, sym, ap, ◌∙◌, subst, append-nil, le_refl}
-use Rattle.swift_base.specs.Told.{prepend}
+use Rattle.std.proofs.Common.{◌≡◌, ℕ, Option, Some, None, option_map, List, [], ◌∷◌, refl, sym, ap, ◌∙◌, subst, append-nil, le_refl}
 use Rattle.swift_base.specs.Outside.{StarterSeen, Commands, TakesLink, then_started, then_failed}
 use Rattle.swift_base.specs.declared.plugins.Plugin.{Plugin}
 use Rattle.expand_top.specs.Answer.{Output}
 use Rattle.expand_top.specs.Form.{text_at}
 use Rattle.expand_top.specs.Promises.{site_in, OfSource, asked_keys, AskedOnce, Each, IsServed, LinksServe}
 use Rattle.expand_top.specs.Run.{LinkSeen, Asking, NothingAsked, IsProcess, IsFailedStart, IsAsked, of_process, not_started, IsAskedFor, IsAskedAt, IsExpansionOf, IsExpansion}
-use Rattle.expand_top.specs.Site.{KeySteps, site_of, plugin_for, asked_at, key_of, request_of, sent_for}
+use Rattle.expand_top.specs.Site.{KeySteps, plugin_for, asked_at, key_of, request_of, sent_for}
 use Rattle.expand_top.specs.Source.{Form}
-use Rattle.expand_top.specs.Starts.{whole_of, GaveLinks, EachPair, IsCommandOf, IsCommandFor, then_commands, StartsServe, Starts, HasCause, StopsHaveCause, FailedBetween, FailedStartsHaveCause}
+use Rattle.expand_top.specs.Starts.{whole_of, GaveLinks, EachPair, IsCommandOf, IsCommandFor, then_commands, StartsServe, Starts, StopsHaveCause, FailedBetween, FailedStartsHaveCause}
 use Rattle.expand_top.specs.declared.line.MacroUse.{MacroUse}
 use Rattle.expand_top.specs.declared.line.Declaration.{Declaration}
 use Rattle.expand_top.specs.declared.link.Unstarted.{Unstarted}

@@ -1,5 +1,5 @@
 -- One request, by what is handed back.
-use Rattle.std.proofs.Common.{◌≡◌, ℕ, ◌≤◌, Option, None, Some, List, [], ◌∷◌, length, subst, sym, ap, ◌∙◌}
+use Rattle.std.proofs.Common.{◌≡◌, ℕ, ◌≤◌, Option, None, Some, List, [], ◌∷◌, length, subst}
 use Rattle.swift_base.specs.Told.{Rose, prepend}
 use Rattle.swift_base.specs.Outside.{StarterSeen, TakesLink, then_started, then_failed}
 use Rattle.expand_top.specs.Link.{StopHasCause, IsWritten, IsLinkOutcome, no_reply}

@@ -11,7 +11,6 @@ use Rattle.expand_top.specs.Site.{KeySteps, site_of, asked_at, key_of, request_o
 use Rattle.expand_top.specs.Source.{Form, IsForm}
 use Rattle.expand_top.specs.declared.line.MacroUse.{MacroUse}
 use Rattle.expand_top.specs.declared.line.Declaration.{Declaration}
-use Rattle.expand_top.specs.declared.link.Unstarted.{Unstarted}
 use Rattle.expand_top.specs.declared.site.Site.{Site}
 use Rattle.expand_top.specs.declared.site.Site.TheVariants as site
 use Rattle.expand_top.specs.declared.ended.SourceRead.{SourceRead}

@@ -5,7 +5,6 @@ use Rattle.std.specs.Str.{IsUtf8, bytes_eq}
 use Rattle.std.specs.Str.Lossy.{utf8_lossy}
 use Rattle.swift_base.specs.Lines.{line_behind, column_behind}
 use Rattle.swift_base.specs.declared.plugins.Plugin.{Plugin}
-use Rattle.unique_names.specs.Names.{discriminator_of}
 use Rattle.unique_names.specs.declared.step.KeyStep.{KeyStep}
 use Rattle.unique_names.specs.declared.role.Role.TheVariants as role
 use Rattle.plugin_frames.specs.Frames.{frame_of}

@@ -1,5 +1,5 @@
 -- What was started, what was read of each process, and why a start or a stop came. This project's own.
-use Rattle.std.specs.Prelude.{◌≡◌, ℕ, ◌<◌, ◌≤◌, ◌++◌, Bool, true, Option, Some, None, option_map, List, [], ◌∷◌, length, map}
+use Rattle.std.specs.Prelude.{◌≡◌, ℕ, ◌<◌, ◌≤◌, ◌++◌, true, Option, Some, None, option_map, List, [], ◌∷◌, length, map}
 use Rattle.swift_base.specs.Told.{prepend, Rose}
 use Rattle.swift_base.specs.Outside.{Commands}
 use Rattle.swift_base.specs.declared.plugins.Plugin.{Plugin}

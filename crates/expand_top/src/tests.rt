@@ -230,16 +230,14 @@ fn refusals_of_a_source(rt: HostRuntime) -> Result<(), Fail> {
     Ok(())
 }
 
-// What the expansion of `stringify` writes where a process gives these bytes.
-fn expect_line(rt: HostRuntime, gives: &str, line: &str) -> Result<(), Fail> {
+// The expansion of `stringify` where the process gives these bytes.
+fn expand_over(rt: HostRuntime, gives: &str) -> Result<Ran, AllocError> {
     let alloc = rt.alloc();
     let source = joined(alloc, &[DECLARATION, "let r = #stringify(a + b)\n"])?;
     let script = Some((gives, Vec::new(alloc)));
     let none = Vec::new(alloc);
     let words = "expand r.swift SampleMacros=plug";
-    let ran = run_on(rt, words, Some(&source), script, none)?;
-    expect(&rt, &ran, 1, "", line);
-    Ok(())
+    run_on(rt, words, Some(&source), script, none)
 }
 
 #[test]
@@ -258,7 +256,8 @@ fn bad_replies_are_no_reply(rt: HostRuntime) -> Result<(), Fail> {
         no_greeting.as_str(),
         greeted_twice.as_str(),
     ] {
-        expect_line(rt, gives, no_reply)?;
+        let ran = expand_over(rt, gives)?;
+        expect(&rt, &ran, 1, "", no_reply);
     }
     Ok(())
 }
@@ -272,7 +271,8 @@ fn replies_without_a_text_or_with_a_diagnostic_wait(rt: HostRuntime) -> Result<(
     let line = "r.swift:2:9: error: this form is not built yet\n";
     for reply in [no_text, warned] {
         let gives = joined(alloc, &[GREETED, reply])?;
-        expect_line(rt, &gives, line)?;
+        let ran = expand_over(rt, &gives)?;
+        expect(&rt, &ran, 1, "", line);
     }
     Ok(())
 }
