@@ -1,11 +1,4 @@
-pub mod Fronts
 pub mod OneGrouping
-pub mod OneOutcome
 pub mod Reaching
-pub mod Reading
-pub mod Runs
-pub mod SomeOutcome
 pub mod Standing
-pub mod Tiling
-pub mod TokenBytes
 pub mod Trees
