@@ -34,9 +34,12 @@ is_name_start c = is_word_start c && not (c == DOLLAR)
 unfoldable pub is_number_part : ℕ → Bool
 is_number_part c = is_ascii_alphanumeric c || c == UNDERSCORE
 
+abbrev pub is_in_ranges : ℕ → Bool
+is_in_ranges c = list_any (λ range. nat_le range.0 c && nat_le c range.1) OPERATOR_RANGES
+
 -- a character past ASCII that is no part of words and lies in one of the ranges
 unfoldable pub is_wide_operator : ℕ → Bool
-is_wide_operator c = nat_le 128 c && not (is_xid_continue c) && list_any (λ range. nat_le range.0 c && nat_le c range.1) OPERATOR_RANGES
+is_wide_operator c = nat_le 128 c && not (is_xid_continue c) && is_in_ranges c
 
 unfoldable pub is_operator : ℕ → Bool
 is_operator c = list_any (λ mark. mark == c) OPERATORS || is_wide_operator c

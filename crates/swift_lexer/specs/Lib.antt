@@ -5,6 +5,7 @@ pub mod Fronts
 pub mod Groups
 pub mod Laws
 pub mod Openings
+pub mod Spellings
 pub mod Strings
 pub mod Texts
 pub mod Tiles

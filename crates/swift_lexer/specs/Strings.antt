@@ -66,7 +66,7 @@ in_string quotes (c ∷ cs) =
     else Some (step.GoesOn, after_run is_plain cs)))
 
 -- the word stands at the front of the text, and ends there
-abbrev pub begins_word : List ℕ → List ℕ → Bool
+unfoldable pub begins_word : List ℕ → List ℕ → Bool
 begins_word [] text = not (starts is_word_part text)
 begins_word (w ∷ word) [] = false
 begins_word (w ∷ word) (c ∷ cs) = w == c && begins_word word cs

@@ -40,12 +40,18 @@ abbrev pub pounds : List ℕ → ℕ
 pounds [] = 0
 pounds (c ∷ cs) = if c == POUND then suc (pounds cs) else 0
 
+unfoldable pub ends_comment : ℕ → ℕ → Bool
+ends_comment c d = c == STAR && d == SLASH
+
+unfoldable pub opens_comment : ℕ → ℕ → Bool
+opens_comment c d = c == SLASH && d == STAR
+
 -- behind the end of a comment, for a text inside as many comments, one in another
 abbrev pub after_comment : ℕ → List ℕ → Option (List ℕ)
 after_comment zero text = Some text
 after_comment (suc depth) [] = None
 after_comment (suc depth) (c ∷ []) = None
 after_comment (suc depth) (c ∷ d ∷ cs) =
-    if c == STAR && d == SLASH then after_comment depth cs
-    else (if c == SLASH && d == STAR then after_comment (suc (suc depth)) cs
+    if ends_comment c d then after_comment depth cs
+    else (if opens_comment c d then after_comment (suc (suc depth)) cs
     else after_comment (suc depth) (d ∷ cs))

@@ -10,6 +10,7 @@ ghost use Rattle.swift_lexer.specs.Chars.{
   is_word_part,
   is_name_start,
   is_number_part,
+  is_in_ranges,
   is_wide_operator,
   is_operator,
   operator_part,
@@ -156,11 +157,15 @@ fn is_number_part(c: char) -> bool
 fn is_wide_operator(c: char) -> bool
     ensures { result ≡ is_wide_operator c }
 {
-    c >= '\u{80}'
-        && !is_xid_continue(c)
-        && OPERATOR_RANGES
-            .iter()
-            .any(|range| range.0 <= c && c <= range.1)
+    c >= '\u{80}' && !is_xid_continue(c) && is_in_ranges(c)
+}
+
+fn is_in_ranges(c: char) -> bool
+    ensures { result ≡ is_in_ranges c }
+{
+    OPERATOR_RANGES
+        .iter()
+        .any(|range| range.0 <= c && c <= range.1)
 }
 
 #[tactic(auto, unfolding(crate::specs::Chars::is_operator))]

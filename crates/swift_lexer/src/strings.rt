@@ -1,6 +1,7 @@
 // What stands inside strings and their interpolations.
 
 ghost use Rattle.std.specs.Prelude.{◌≡◌, ◌<◌, ◌^◌, None, Some, length, option_map};
+ghost use Rattle.std.specs.List.{list_any};
 ghost use Rattle.std.specs.Str.{chars};
 ghost use Rattle.swift_lexer.specs.Answers.{Answers};
 ghost use Rattle.swift_lexer.specs.declared.strings.Open.TheVariants.{InString};
@@ -180,10 +181,17 @@ fn token_inside<'a>(text: &'a str, rest: &'a str) -> (Step, &'a str)
 fn is_builtin(text: &str) -> bool
     ensures { result ≡ is_builtin (chars text.now) }
 {
-    BUILTIN_WORDS.iter().any(|word| begins_word(word, text))
+    begins_one(&BUILTIN_WORDS, text)
+}
+
+fn begins_one(words: &[&[u8]], text: &str) -> bool
+    ensures { result ≡ list_any (λ word. begins_word word.now (chars text.now)) words.now }
+{
+    words.iter().any(|word| begins_word(word, text))
 }
 
 /// Whether the word stands at the front of the text and ends there.
+#[tactic(auto, unfolding(crate::specs::Strings::begins_word))]
 fn begins_word(word: &[u8], text: &str) -> bool
     ensures { result ≡ begins_word word.now (chars text.now) }
 {

@@ -1,10 +1,10 @@
 // Characters at the front of a text, and what stands behind them.
 
-ghost use Rattle.std.specs.Prelude.{◌≡◌, ◌∷◌, [], ◌<◌, ◌≤◌, ◌+◌, MatchOption, None, Some, length, option_map, ◌==◌, ⊤};
+ghost use Rattle.std.specs.Prelude.{◌≡◌, ◌∷◌, [], ◌<◌, ◌≤◌, ◌+◌, ◌^◌, ⊤, None, MatchOption, length, option_map, ◌==◌};
 ghost use Rattle.std.specs.Str.{chars};
 ghost use Rattle.swift_lexer.specs.Chars.{goes_on, operator_part};
 ghost use Rattle.swift_lexer.specs.declared.chars.TheConstants.{POUND};
-ghost use Rattle.swift_lexer.specs.Texts.{begins, behind, after_run, begins_comment, after_operator, after_marks, pounds, after_comment};
+ghost use Rattle.swift_lexer.specs.Texts.{begins, behind, after_run, begins_comment, after_operator, after_marks, pounds, ends_comment, opens_comment, after_comment};
 
 use crate::chars::{POUND, Run, SLASH, STAR, goes_on, is_operator_part};
 
@@ -29,8 +29,7 @@ pub fn begins(text: &str, mark: char) -> bool
 
 /// Behind the first character.
 pub fn behind(text: &str) -> &str
-    ensures value { chars result.now ≡ behind (chars text.now) }
-    ensures shorter { length result.now ≤ length text.now }
+    ensures { chars result.now ≡ behind (chars text.now) }
 {
     match first(text) {
         Some((_, rest)) => rest,
@@ -40,8 +39,7 @@ pub fn behind(text: &str) -> &str
 
 /// Behind the longest run.
 pub fn after_run(text: &str, run: Run) -> &str
-    ensures value { chars result.now ≡ after_run (goes_on run) (chars text.now) }
-    ensures shorter { length result.now ≤ length text.now }
+    ensures { chars result.now ≡ after_run (goes_on run) (chars text.now) }
 {
     let mut rest = text;
     'run: while let Some((c, after)) = first(rest) {
@@ -55,8 +53,7 @@ pub fn after_run(text: &str, run: Run) -> &str
 
 /// Behind the longest run of operator characters, where `dots` also of dots, with which no comment begins.
 pub fn after_operator(text: &str, dots: bool) -> &str
-    ensures value { chars result.now ≡ after_operator (operator_part dots) (chars text.now) }
-    ensures shorter { length result.now ≤ length text.now }
+    ensures { chars result.now ≡ after_operator (operator_part dots) (chars text.now) }
 {
     let mut rest = text;
     'run: while let Some((c, after)) = first(rest) {
@@ -80,8 +77,7 @@ fn begins_comment(text: &str) -> bool
 
 /// Behind `count` times the mark, where the text begins so.
 pub fn after_marks(text: &str, mark: char, count: usize) -> Option<&str>
-    ensures value { option_map (λ rest. chars rest.now) result ≡ after_marks mark count (chars text.now) }
-    ensures shorter { MatchOption result ⊤ (λ rest. length rest.now ≤ length text.now) }
+    ensures { option_map (λ rest. chars rest.now) result ≡ after_marks mark count (chars text.now) }
 {
     let mut rest = text;
     let mut left = count;
@@ -99,8 +95,7 @@ pub fn after_marks(text: &str, mark: char, count: usize) -> Option<&str>
 /// How many pound signs begin the text, and what stands behind them.
 pub fn pounds(text: &str) -> (usize, &str)
     ensures count { result.0 ≡ pounds (chars text.now) }
-    ensures value { chars result.1.now ≡ after_run (λ c. c == POUND) (chars text.now) }
-    ensures shorter { length result.1.now + result.0 ≤ length text.now }
+    ensures rest { chars result.1.now ≡ after_run (λ c. c == POUND) (chars text.now) }
 {
     let mut rest = text;
     let mut count = 0usize;
@@ -116,23 +111,47 @@ pub fn pounds(text: &str) -> (usize, &str)
 
 /// Behind the end of a comment, for a text inside it. Comments nest.
 pub fn after_comment(text: &str) -> Option<&str>
-    ensures value { option_map (λ rest. chars rest.now) result ≡ after_comment 1 (chars text.now) }
-    ensures shorter { MatchOption result ⊤ (λ rest. length rest.now < length text.now) }
+    ensures { option_map (λ rest. chars rest.now) result ≡ after_comment 1 (chars text.now) }
 {
     let mut rest = text;
     let mut depth = 1usize;
     'comment: while depth > 0 {
-        let (c, after) = first(rest)?;
-        let (d, behind) = first(after)?;
-        if c == STAR && d == SLASH {
-            depth -= 1;
-            rest = behind;
-        } else if c == SLASH && d == STAR {
-            depth += 1;
-            rest = behind;
-        } else {
-            rest = after;
-        }
+        let (inner, after) = comment_step(depth, rest)?;
+        depth = inner;
+        rest = after;
     }
     Some(rest)
+}
+
+/// A step inside so many comments: inside how many it leads, and what stands behind it.
+fn comment_step(depth: usize, text: &str) -> Option<(usize, &str)>
+    requires inside { 0 < depth }
+    requires fits { depth + length text.now ≤ 2 ^ 64 }
+    ensures value { MatchOption result (after_comment depth (chars text.now) ≡ None) (λ (inner, rest). after_comment depth (chars text.now) ≡ after_comment inner (chars rest.now)) }
+    ensures bound { MatchOption result ⊤ (λ (inner, rest). inner + length rest.now ≤ depth + length text.now) }
+    ensures shorter { MatchOption result ⊤ (λ (inner, rest). length rest.now < length text.now) }
+{
+    let (c, after) = first(text)?;
+    let (d, behind) = first(after)?;
+    if ends_comment(c, d) {
+        return Some((depth - 1, behind));
+    }
+    if opens_comment(c, d) {
+        return Some((depth + 1, behind));
+    }
+    Some((depth, after))
+}
+
+#[tactic(auto, unfolding(crate::specs::Texts::ends_comment))]
+fn ends_comment(c: char, d: char) -> bool
+    ensures { result ≡ ends_comment c d }
+{
+    c == STAR && d == SLASH
+}
+
+#[tactic(auto, unfolding(crate::specs::Texts::opens_comment))]
+fn opens_comment(c: char, d: char) -> bool
+    ensures { result ≡ opens_comment c d }
+{
+    c == SLASH && d == STAR
 }
