@@ -33,7 +33,7 @@ Closes-by total around start text ending (breaks inner rest fault is closes) = s
 Closes-by total around start text ending (fails kind here is) = subst (λ s. By total around start text s (Err (fault_at total here kind))) (sym is) refl
 Closes-by total around start text ending (stays_open is) = subst (λ s. By total around start text s (Err (record { at = start; kind = OpenString }))) (sym is) refl
 
-Then-closes : (total : ℕ) (around : Open) (start : ℕ) (text : List ℕ) (inner : Open) (rest : List ℕ) (inside ending : Ending) → step_in around text ≡ Some (step.Opens inner, rest) → Closes total inner (string_start inner start (place total text)) rest inside → Then total around start inside ending → Closes total around start text ending
+pub Then-closes : (total : ℕ) (around : Open) (start : ℕ) (text : List ℕ) (inner : Open) (rest : List ℕ) (inside ending : Ending) → step_in around text ≡ Some (step.Opens inner, rest) → Closes total inner (string_start inner start (place total text)) rest inside → Then total around start inside ending → Closes total around start text ending
 Then-closes total around start text inner rest (Ok after) ending is closes others = opens inner rest after is closes others
 Then-closes total around start text inner rest (Err fault) ending is closes same = subst (Closes total around start text) (sym same) (breaks inner rest fault is closes)
 

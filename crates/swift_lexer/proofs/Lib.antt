@@ -1,7 +1,9 @@
 pub mod Closing
 pub mod Comments
+pub mod FrontKinds
 pub mod Leaving
 pub mod OneGrouping
 pub mod Reaching
 pub mod Standing
 pub mod Trees
+pub mod Unfinished
