@@ -50,6 +50,17 @@ pub Passes-shorter : (text rest : List ℕ) → Passes text rest → length rest
 Passes-shorter text rest passes =
     omega (arith, ap length passes.split, ap length passes.leaves.split, length-append passes.leaves.front rest)
 
+pub Passes-leaves : (text rest : List ℕ) → Passes text rest → Leaves text rest
+Passes-leaves text rest passes = subst (λ l. Leaves l rest) (sym passes.split) (leaves_behind passes.first passes.others rest passes.leaves)
+
+pub Passes-then : (text middle rest : List ℕ) → Passes text middle → Passes middle rest → Passes text rest
+Passes-then text middle rest first second = record {
+  first = first.first;
+  others = first.others;
+  split = first.split;
+  leaves = leaves_then first.others middle rest first.leaves (Passes-leaves middle rest second);
+}
+
 behind-leaves : (text : List ℕ) → Leaves text (behind text)
 behind-leaves [] = all_left []
 behind-leaves (c ∷ cs) = leaves_behind c cs cs (all_left cs)

@@ -1,8 +1,12 @@
+pub mod Answering
+pub mod Begun
 pub mod Closing
 pub mod Comments
+pub mod Endings
 pub mod FrontKinds
 pub mod Leaving
 pub mod OneGrouping
+pub mod OneOutcome
 pub mod Reaching
 pub mod Standing
 pub mod Trees
