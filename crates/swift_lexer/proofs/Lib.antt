@@ -8,6 +8,8 @@ pub mod Leaving
 pub mod OneGrouping
 pub mod OneOutcome
 pub mod Reaching
+pub mod SomeOutcome
 pub mod Standing
+pub mod TokenBytes
 pub mod Trees
 pub mod Unfinished
