@@ -61,7 +61,7 @@ Passes-then text middle rest first second = record {
   leaves = leaves_then first.others middle rest first.leaves (Passes-leaves middle rest second);
 }
 
-behind-leaves : (text : List ℕ) → Leaves text (behind text)
+pub behind-leaves : (text : List ℕ) → Leaves text (behind text)
 behind-leaves [] = all_left []
 behind-leaves (c ∷ cs) = leaves_behind c cs cs (all_left cs)
 

@@ -9,7 +9,9 @@ pub mod OneGrouping
 pub mod OneOutcome
 pub mod Reaching
 pub mod SomeOutcome
+pub mod Spelled
 pub mod Standing
+pub mod Tiling
 pub mod TokenBytes
 pub mod Trees
 pub mod Unfinished
