@@ -11,7 +11,7 @@ use Rattle.swift_lexer.specs.declared.refusal.Refusal.{Refusal}
 use Rattle.swift_lexer.specs.declared.refusal.Refusal.TheVariants.{Memory, Fault}
 use Rattle.swift_lexer.specs.Answers.{Refuses}
 use Rattle.swift_lexer.specs.Fronts.{at_front}
-use Rattle.swift_lexer.specs.Tokens.{place, fault_at, String, Outcome, after_token, token_between, IsLexedFrom, ends, passes, reads, quotes, breaks, fails}
+use Rattle.swift_lexer.specs.Tokens.{fault_at, String, Outcome, after_token, token_between, IsLexedFrom, ends, passes, reads, quotes, breaks, fails}
 
 -- the outcome of a text, by that of what stands behind its first tokens
 abbrev after_tokens : List Token → Outcome → Outcome

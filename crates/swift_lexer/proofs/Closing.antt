@@ -1,7 +1,5 @@
 -- How a text goes on inside strings and parentheses, by what stands at its front.
-use Rattle.std.proofs.Common.{◌≡◌, ℕ, zero, suc, ◌<◌, ◌≤◌, List, [], ◌∷◌, ◌++◌, length, Option, Some, None, Ok, Err, sym, refl, ap, subst, arith, ◌∙◌}
-use Rattle.swift_lexer.specs.declared.token.LexFault.{LexFault}
-use Rattle.swift_lexer.specs.declared.token.LexKind.{LexKind}
+use Rattle.std.proofs.Common.{◌≡◌, ℕ, List, Option, Some, None, Ok, Err, sym, refl, subst}
 use Rattle.swift_lexer.specs.declared.token.LexKind.TheVariants.{OpenString}
 use Rattle.swift_lexer.specs.declared.strings.Open.{Open}
 use Rattle.swift_lexer.specs.declared.strings.Step.{Step}

@@ -1,5 +1,5 @@
 -- How a text inside comments goes on.
-use Rattle.std.proofs.Common.{◌≡◌, ℕ, zero, suc, ◌+◌, ◌-◌, ◌<◌, true, false, cond, List, ◌∷◌, sym, refl, ap, arith, ◌∙◌}
+use Rattle.std.proofs.Common.{◌≡◌, ℕ, zero, suc, ◌+◌, ◌-◌, ◌<◌, true, false, List, ◌∷◌, arith}
 use Rattle.swift_lexer.specs.Texts.{ends_comment, opens_comment, after_comment}
 
 pub comment_ends : (depth c d : ℕ) (cs : List ℕ) → 0 < depth → ends_comment c d ≡ true → after_comment depth (c ∷ d ∷ cs) ≡ after_comment (depth - 1) cs

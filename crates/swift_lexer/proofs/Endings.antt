@@ -1,5 +1,5 @@
 -- A string or a pair of parentheses passes a character at least.
-use Rattle.std.proofs.Common.{◌≡◌, ℕ, List, Ok, Err}
+use Rattle.std.proofs.Common.{ℕ, List, Ok, Err}
 use Rattle.swift_lexer.specs.declared.strings.Open.{Open}
 use Rattle.swift_lexer.specs.declared.strings.Step.TheVariants as step
 use Rattle.swift_lexer.specs.Tokens.{Ending, Closes, ends, goes_on, opens, breaks, fails, stays_open}

@@ -1,5 +1,5 @@
 -- Of which characters each kind of front is.
-use Rattle.std.proofs.Common.{◌≡◌, ℕ, Bool, true, false, if◌then◌else◌, ◌==◌, refl}
+use Rattle.std.proofs.Common.{◌≡◌, ℕ, true, false, if◌then◌else◌, ◌==◌, refl}
 use Rattle.std.specs.Char.{is_ascii_digit}
 use Rattle.swift_lexer.specs.declared.chars.Front.{Front}
 use Rattle.swift_lexer.specs.declared.chars.Front.TheVariants as front

@@ -1,5 +1,5 @@
 -- What stands behind something in a text is a last part of the text.
-use Rattle.std.proofs.Common.{◌≡◌, ℕ, zero, suc, ◌+◌, ◌<◌, ◌≤◌, Bool, true, false, List, [], ◌∷◌, ◌++◌, length, Option, Some, None, Ok, Err, if◌then◌else◌, ◌==◌, ◌&&◌, not, sym, refl, ap, subst, arith, ◌∙◌, append_assoc}
+use Rattle.std.proofs.Common.{◌≡◌, ℕ, zero, suc, ◌<◌, Bool, true, false, List, [], ◌∷◌, ◌++◌, length, Option, Some, None, if◌then◌else◌, ◌==◌, ◌&&◌, not, sym, refl, ap, subst, arith, ◌∙◌, append_assoc}
 use Rattle.std.proofs.lemmas.List.{length-append}
 use Rattle.std.proofs.lemmas.Bool.{eqb-true}
 use Rattle.std.specs.Prelude.{option_map}
@@ -7,7 +7,7 @@ use Rattle.std.specs.Char.{is_ascii_digit}
 use Rattle.swift_lexer.specs.declared.chars.Front.{Front}
 use Rattle.swift_lexer.specs.declared.chars.Front.TheVariants as front
 use Rattle.swift_lexer.specs.declared.chars.TheConstants.{QUOTE, BACKQUOTE, BACKSLASH, POUND, DOT, SLASH, STAR, LEFT_PARENTHESIS, RIGHT_PARENTHESIS}
-use Rattle.swift_lexer.specs.declared.token.Class.TheVariants.{Word, Quoted, Number, Pound, At, Punct, Oper, LeftBracket, RightBracket}
+use Rattle.swift_lexer.specs.declared.token.Class.TheVariants.{Quoted, Pound, Punct, Oper}
 use Rattle.swift_lexer.specs.declared.token.LexKind.TheVariants.{BadCharacter, ExtendedRegex, UseInInterpolation}
 use Rattle.swift_lexer.specs.declared.found.Found.{Found}
 use Rattle.swift_lexer.specs.declared.found.Found.TheVariants.{Trivia, Token, Opens, Fails}

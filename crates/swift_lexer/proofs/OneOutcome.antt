@@ -2,13 +2,13 @@
 use Rattle.std.proofs.Common.{◌≡◌, ℕ, List, [], length, Option, Some, None, Ok, Err, sym, refl, ap, subst, ◌∙◌}
 use Rattle.std.proofs.Math.Seq.{take-length}
 use Rattle.std.proofs.lemmas.Str.{utf8_valid_len-IsValidUpTo}
-use Rattle.std.specs.Str.{IsUtf8, IsValidUpTo, chars}
+use Rattle.std.specs.Str.{IsUtf8, IsValidUpTo}
 use Rattle.swift_lexer.specs.declared.token.Class.TheVariants.{Str}
 use Rattle.swift_lexer.specs.declared.token.LexKind.TheVariants.{NotUtf8}
 use Rattle.swift_lexer.specs.declared.found.Found.{Found}
 use Rattle.swift_lexer.specs.declared.found.Found.TheVariants as found
 use Rattle.swift_lexer.specs.Fronts.{Finding, at_front}
-use Rattle.swift_lexer.specs.Tokens.{place, fault_at, String, Ending, Outcome, after_token, token_between, after_mark, IsLexedFrom, ends, passes, reads, quotes, breaks, fails, IsLexed, ill_formed, well_formed}
+use Rattle.swift_lexer.specs.Tokens.{place, fault_at, String, Ending, Outcome, after_token, token_between, IsLexedFrom, ends, passes, reads, quotes, breaks, fails, ill_formed, well_formed}
 use Rattle.swift_lexer.specs.Laws.{OneTokenOutcome}
 use Rattle.swift_lexer.proofs.Closing.{closes_one}
 

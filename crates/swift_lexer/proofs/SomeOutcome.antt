@@ -1,11 +1,10 @@
 -- A text has an outcome.
-use Rattle.std.proofs.Common.{◌≡◌, ◌⊎◌, inl, inr, ℕ, zero, suc, ◌<◌, ◌≤◌, Bool, true, false, List, [], length, take, Option, Some, None, Ok, Err, sym, refl, ap, subst, arith, ◌∙◌}
+use Rattle.std.proofs.Common.{◌≡◌, ◌⊎◌, inl, inr, ℕ, zero, suc, ◌<◌, ◌≤◌, true, false, List, [], length, take, Option, Some, None, Ok, Err, sym, refl, subst, arith, ◌∙◌}
 use Rattle.std.proofs.lemmas.List.{take_all}
 use Rattle.std.proofs.lemmas.Bool.{cases_lt, false≢true}
 use Rattle.std.proofs.lemmas.Str.{IsUtf8-from_is_utf8, is_utf8-from_IsUtf8, IsUtf8-nil}
 use Rattle.std.specs.Str.{IsUtf8, IsValidUpTo, is_utf8, chars}
 use Rattle.swift_lexer.specs.declared.token.Class.TheVariants.{Str}
-use Rattle.swift_lexer.specs.declared.token.LexFault.{LexFault}
 use Rattle.swift_lexer.specs.declared.token.LexKind.TheVariants.{NotUtf8, OpenString}
 use Rattle.swift_lexer.specs.declared.found.Found.{Found}
 use Rattle.swift_lexer.specs.declared.found.Found.TheVariants as found
@@ -19,7 +18,7 @@ use Rattle.swift_lexer.specs.Strings.{Stepped, step_in}
 use Rattle.swift_lexer.specs.Tokens as of
 use Rattle.swift_lexer.specs.Tokens.{place, fault_at, string_start, String, Ending, Closes, Outcome, after_token, token_between, after_mark, IsLexedFrom, IsLexed, ill_formed, well_formed}
 use Rattle.swift_lexer.specs.Laws.{SomeTokenOutcome}
-use Rattle.swift_lexer.proofs.Leaving.{Passes, Passes-shorter, Passes-then, at_front-passes, step_in-passes}
+use Rattle.swift_lexer.proofs.Leaving.{Passes-shorter, Passes-then, at_front-passes, step_in-passes}
 use Rattle.swift_lexer.proofs.Endings.{Closes-passes}
 
 -- shorter texts have endings

@@ -1,5 +1,5 @@
 -- What stands at a front is spelled as its class says.
-use Rattle.std.proofs.Common.{◌≡◌, ◌⊎◌, inl, inr, ℕ, zero, suc, ◌<◌, ◌≤◌, Bool, true, false, List, [], ◌∷◌, ◌++◌, length, Some, None, if◌then◌else◌, ◌==◌, ◌&&◌, ◌||◌, not, sym, refl, ap, subst, arith, ◌∙◌, append_assoc}
+use Rattle.std.proofs.Common.{◌≡◌, ◌⊎◌, inl, inr, ℕ, suc, ◌<◌, Bool, true, false, List, [], ◌∷◌, ◌++◌, length, Some, None, if◌then◌else◌, ◌==◌, ◌&&◌, not, sym, refl, ap, subst, arith, ◌∙◌, append_assoc}
 use Rattle.std.specs.List.{AllPass}
 use Rattle.std.specs.Char.{is_ascii_digit}
 use Rattle.std.specs.Prelude.{Option}
@@ -9,7 +9,7 @@ use Rattle.swift_lexer.specs.declared.chars.Front.{Front}
 use Rattle.swift_lexer.specs.declared.chars.Front.TheVariants as front
 use Rattle.swift_lexer.specs.declared.chars.TheConstants.{QUOTE, BACKQUOTE, POUND, AT, DOT, SLASH, STAR}
 use Rattle.swift_lexer.specs.declared.token.Class.{Class}
-use Rattle.swift_lexer.specs.declared.token.Class.TheVariants.{Word, Quoted, Number, Str, Pound, At, Punct, Oper, LeftBracket, RightBracket}
+use Rattle.swift_lexer.specs.declared.token.Class.TheVariants.{Word, Quoted, Number, Pound, At, Punct, Oper, LeftBracket, RightBracket}
 use Rattle.swift_lexer.specs.declared.token.LexKind.TheVariants.{BadCharacter, ExtendedRegex}
 use Rattle.swift_lexer.specs.declared.found.Found.{Found}
 use Rattle.swift_lexer.specs.declared.found.Found.TheVariants.{Trivia, Token, Opens, Fails}
@@ -17,7 +17,7 @@ use Rattle.swift_lexer.specs.declared.found.Quotes.{Quotes}
 use Rattle.swift_lexer.specs.Chars.{is_line_end, is_word_part, is_name_start, is_number_part, is_operator, operator_part, is_quoted_part, front_of}
 use Rattle.swift_lexer.specs.Texts.{starts, begins, behind, after_run, begins_comment, after_operator, after_marks, after_comment, pounds}
 use Rattle.swift_lexer.specs.Fronts.{Finding, after_fraction, opening_by, opening, comment_by, slash, quoted, pound, dot, by_front, at_front}
-use Rattle.swift_lexer.specs.Spellings.{IsQuotedName, HasFraction, IsName, IsDotted, SpellsWith}
+use Rattle.swift_lexer.specs.Spellings.{SpellsWith}
 use Rattle.swift_lexer.proofs.FrontKinds.{IsOfKind, front_of-kind}
 
 -- the characters that a run passes
@@ -113,7 +113,7 @@ number-spells c rest is =
           let digit = starts_so is_ascii_digit (behind text) parts.1 in
           let part : starts is_number_part (behind text) ≡ true = subst (λ l. starts is_number_part l ≡ true) (sym digit.split) (digit_is_part digit.first digit.passes) in
           let run = some_run is_number_part (behind text) part in
-          let same : digit.first ≡ run.first = cc (sym digit.split ∙ run.split) in
+          let same : digit.first ≡ run.first = cc in
           let split : rest ≡ whole.run ++ (DOT ∷ run.first ∷ (run.others ++ after_run is_number_part (behind text))) = whole.split ∙ ap (λ l. whole.run ++ l) (dotted ∙ ap (λ l. DOT ∷ l) run.split) in
           record {
             others = whole.run ++ (DOT ∷ run.first ∷ run.others);

@@ -4,7 +4,7 @@ use Rattle.std.specs.Char.{is_ascii_digit}
 use Rattle.swift_lexer.specs.declared.chars.Front.{Front}
 use Rattle.swift_lexer.specs.declared.chars.Front.TheVariants as front
 use Rattle.swift_lexer.specs.declared.chars.TheConstants.{QUOTE, BACKQUOTE, POUND, DOT, SLASH, STAR}
-use Rattle.swift_lexer.specs.declared.token.Class.TheVariants.{Word, Quoted, Number, Str, Pound, At, Punct, Oper, LeftBracket, RightBracket}
+use Rattle.swift_lexer.specs.declared.token.Class.TheVariants.{Word, Quoted, Number, Pound, At, Punct, Oper, LeftBracket, RightBracket}
 use Rattle.swift_lexer.specs.declared.token.LexKind.TheVariants.{BadCharacter, OpenComment, ExtendedRegex}
 use Rattle.swift_lexer.specs.declared.found.Found.{Found}
 use Rattle.swift_lexer.specs.declared.found.Found.TheVariants.{Trivia, Token, Opens, Fails}

@@ -8,7 +8,7 @@ use Rattle.swift_lexer.specs.declared.strings.Open.TheVariants.{InString}
 use Rattle.swift_lexer.specs.Tokens.{Closes, IsLexedFrom}
 use Rattle.swift_lexer.proofs.Leaving.{Passes-shorter, Passes-then, at_front-passes}
 use Rattle.swift_lexer.proofs.Endings.{Closes-passes}
-use Rattle.swift_lexer.proofs.Begun.{Begun-start, Begun-passes, Begun-reads, Begun-quotes, Begun-ends, Begun-fails, Begun-breaks}
+use Rattle.swift_lexer.proofs.Begun.{Begun-passes, Begun-reads, Begun-quotes, Begun-ends, Begun-fails, Begun-breaks}
 use Rattle.swift_lexer.proofs.lexing.lex_from.Goals as goal
 
 pub tokens-smaller-in-Trivia : goal.tokens-smaller-in-Trivia

@@ -1,4 +1,4 @@
-use Rattle.std.proofs.Common.{◌≡◌, ◌∷◌, ◌++◌, [], ℕ, Some, Err, is_ok, sym, ap, subst, refl, arith, rules, ◌∙◌}
+use Rattle.std.proofs.Common.{ℕ, Some, Err, is_ok, sym, ap, subst, arith, rules, ◌∙◌}
 use Rattle.std.proofs.ResultArms.{chosen}
 use Rattle.std.proofs.lemmas.List.{nil_from_length}
 use Rattle.std.specs.Str.{chars}
