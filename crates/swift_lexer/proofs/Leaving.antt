@@ -139,10 +139,10 @@ unfolding opening
 opening-leaves n text = opening_by-leaves n text (after_marks QUOTE 2 text) (after_marks-leaves QUOTE 2 text)
 
 finding_behind : (text middle : List ℕ) (finding : Finding) → Leaves text middle → FindingLeaves middle finding → FindingLeaves text finding
-finding_behind text middle (Trivia , rest) first second = leaves_then text middle rest first second
-finding_behind text middle (Token class , rest) first second = leaves_then text middle rest first second
-finding_behind text middle (Opens quotes , rest) first second = leaves_then text middle rest first second
-finding_behind text middle (Fails kind , rest) first second = tt
+finding_behind text middle (Trivia, rest) first second = leaves_then text middle rest first second
+finding_behind text middle (Token class, rest) first second = leaves_then text middle rest first second
+finding_behind text middle (Opens quotes, rest) first second = leaves_then text middle rest first second
+finding_behind text middle (Fails kind, rest) first second = tt
 
 comment_by-leaves : (text middle : List ℕ) (rest : Option (List ℕ)) → LeavesIf middle rest → FindingLeaves middle (comment_by text rest)
 comment_by-leaves text middle None leaves = tt
@@ -300,10 +300,10 @@ line_end-leaves quotes rest =
 
 stepped_behind : (text middle : List ℕ) (stepped : Option Stepped) → Leaves text middle → SteppedIf middle stepped → SteppedIf text stepped
 stepped_behind text middle None first second = tt
-stepped_behind text middle (Some (step.Ends , rest)) first second = leaves_then text middle rest first second
-stepped_behind text middle (Some (step.GoesOn , rest)) first second = leaves_then text middle rest first second
-stepped_behind text middle (Some (step.Opens inner , rest)) first second = leaves_then text middle rest first second
-stepped_behind text middle (Some (step.Fails kind , rest)) first second = tt
+stepped_behind text middle (Some (step.Ends, rest)) first second = leaves_then text middle rest first second
+stepped_behind text middle (Some (step.GoesOn, rest)) first second = leaves_then text middle rest first second
+stepped_behind text middle (Some (step.Opens inner, rest)) first second = leaves_then text middle rest first second
+stepped_behind text middle (Some (step.Fails kind, rest)) first second = tt
 
 escaped-leaves : (quotes : Quotes) (text : List ℕ) → SteppedIf text (escaped quotes text)
 escaped-leaves quotes [] = tt

@@ -95,17 +95,19 @@ longest_front text (suc most) =
     elim (is_utf8 (take (suc most) text)) as (λ b. is_utf8 (take (suc most) text) ≡ b → (size : ℕ) × IsLongest text (suc most) size) [
       | true ↦ λ is. (suc most, record { within = omega arith; utf8 = IsUtf8-from_is_utf8 (take (suc most) text) is; longest = λ longer more at_most utf8. absurd (omega arith) })
       | false ↦ λ is_not.
-          let shorter = longest_front text most in
-          (shorter.0, record {
-            within = omega (arith, shorter.1.within);
-            utf8 = shorter.1.utf8;
-            longest = λ longer more at_most utf8. elim (cases_lt most longer) [
-              | inl above ↦
-                  let whole : longer ≡ suc most = omega arith in
-                  false≢true (sym is_not ∙ is_utf8-from_IsUtf8 (take (suc most) text) (subst (λ n. IsUtf8 (take n text)) whole utf8))
-              | inr below ↦ shorter.1.longest longer more below utf8
-            ];
-          })
+          let shorter = longest_front text most in (
+            shorter.0,
+            record {
+              within = omega (arith, shorter.1.within);
+              utf8 = shorter.1.utf8;
+              longest = λ longer more at_most utf8. elim (cases_lt most longer) [
+                | inl above ↦
+                    let whole : longer ≡ suc most = omega arith in
+                    false≢true (sym is_not ∙ is_utf8-from_IsUtf8 (take (suc most) text) (subst (λ n. IsUtf8 (take n text)) whole utf8))
+                | inr below ↦ shorter.1.longest longer more below utf8
+              ];
+            },
+          )
     ] refl
 
 -- a text is UTF-8, or it has a first ill-formed sequence
@@ -113,14 +115,17 @@ utf8_or_not : (text : List ℕ) → IsUtf8 text ⊎ ((valid : ℕ) × IsValidUpT
 utf8_or_not text =
     let front = longest_front text (length text) in
     elim (cases_lt front.0 (length text)) [
-      | inl short ↦ inr (front.0, record {
-        short = short;
-        front = front.1.utf8;
-        longest = λ longer more utf8. elim (cases_lt (length text) longer) [
-          | inl past ↦ front.1.longest (length text) short (omega arith) (subst IsUtf8 (take_all longer text (omega arith) ∙ sym (take_all (length text) text (omega arith))) utf8)
-          | inr within ↦ front.1.longest longer more within utf8
-        ];
-      })
+      | inl short ↦ inr (
+        front.0,
+        record {
+          short = short;
+          front = front.1.utf8;
+          longest = λ longer more utf8. elim (cases_lt (length text) longer) [
+            | inl past ↦ front.1.longest (length text) short (omega arith) (subst IsUtf8 (take_all longer text (omega arith) ∙ sym (take_all (length text) text (omega arith))) utf8)
+            | inr within ↦ front.1.longest longer more within utf8
+          ];
+        },
+      )
       | inr whole ↦ inl (subst IsUtf8 (take_all front.0 text whole) front.1.utf8)
     ]
 

@@ -126,7 +126,7 @@ tile_from bytes (breaks marks inside fault is closes) standing before = tt
 tile_from bytes (fails kind here is) standing before = tt
 
 mark-leaves : (text : List ℕ) → Leaves text (after_mark text)
-mark-leaves text = elim (begins BYTE_ORDER_MARK text) as (λ b. Leaves text (if b then behind text else text)) [ | true ↦ behind-leaves text | false ↦ all_left text ]
+mark-leaves text = elim (begins BYTE_ORDER_MARK text) as (λ b. Leaves text (if b then behind text else text)) [ true ↦ behind-leaves text | false ↦ all_left text ]
 
 abbrev Tiled : List ℕ → Outcome → Type 0
 Tiled text (Ok tokens) = TokensTile text tokens

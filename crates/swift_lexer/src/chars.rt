@@ -63,17 +63,29 @@ pub const OPERATOR_RANGES: [(char, char); 22] = [
 ];
 
 pub const UNDERSCORE: char = '_';
+
 pub const DOLLAR: char = '$';
+
 pub const QUOTE: char = '"';
+
 pub const BACKQUOTE: char = '`';
+
 pub const BACKSLASH: char = '\\';
+
 pub const POUND: char = '#';
+
 pub const AT: char = '@';
+
 pub const DOT: char = '.';
+
 pub const SLASH: char = '/';
+
 pub const STAR: char = '*';
+
 pub const LEFT_PARENTHESIS: char = '(';
+
 pub const RIGHT_PARENTHESIS: char = ')';
+
 pub const BYTE_ORDER_MARK: char = '\u{feff}';
 
 /// With what a text outside strings may go on, by its first character.

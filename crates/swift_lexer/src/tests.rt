@@ -16,22 +16,52 @@ const READ: [(&str, &[(Class, u32, u32)]); 21] = [
     ("", &[]),
     (" \n\t\r\u{b}\u{c}", &[]),
     ("\u{feff}a", &[(Class::Word, 3, 4)]),
-    ("a+#b", &[(Class::Word, 0, 1), (Class::Oper, 1, 2), (Class::Pound, 2, 4)]),
+    (
+        "a+#b",
+        &[
+            (Class::Word, 0, 1),
+            (Class::Oper, 1, 2),
+            (Class::Pound, 2, 4),
+        ],
+    ),
     ("x//c", &[(Class::Word, 0, 1)]),
     ("x//c\ry", &[(Class::Word, 0, 1), (Class::Word, 5, 6)]),
     ("+/*c*/-", &[(Class::Oper, 0, 1), (Class::Oper, 6, 7)]),
-    ("a/*/*b*/c*/d", &[(Class::Word, 0, 1), (Class::Word, 11, 12)]),
-    ("a..<b", &[(Class::Word, 0, 1), (Class::Oper, 1, 4), (Class::Word, 4, 5)]),
+    (
+        "a/*/*b*/c*/d",
+        &[(Class::Word, 0, 1), (Class::Word, 11, 12)],
+    ),
+    (
+        "a..<b",
+        &[
+            (Class::Word, 0, 1),
+            (Class::Oper, 1, 4),
+            (Class::Word, 4, 5),
+        ],
+    ),
     ("...", &[(Class::Oper, 0, 3)]),
     ("+..", &[(Class::Oper, 0, 1), (Class::Oper, 1, 3)]),
     (".5", &[(Class::Punct, 0, 1), (Class::Number, 1, 2)]),
-    ("1.5e3.f", &[(Class::Number, 0, 5), (Class::Punct, 5, 6), (Class::Word, 6, 7)]),
+    (
+        "1.5e3.f",
+        &[
+            (Class::Number, 0, 5),
+            (Class::Punct, 5, 6),
+            (Class::Word, 6, 7),
+        ],
+    ),
     ("a$0", &[(Class::Word, 0, 1), (Class::Word, 1, 3)]),
     ("`a b`", &[(Class::Quoted, 0, 5)]),
-    ("\u{e9}t\u{301}\u{d7}\u{bb}", &[(Class::Word, 0, 5), (Class::Oper, 5, 9)]),
+    (
+        "\u{e9}t\u{301}\u{d7}\u{bb}",
+        &[(Class::Word, 0, 5), (Class::Oper, 5, 9)],
+    ),
     ("\"\\(a[)\"", &[(Class::Str, 0, 7)]),
     ("##\"a\"#\"##x", &[(Class::Str, 0, 9), (Class::Word, 9, 10)]),
-    ("\"\"\"a\n\"\"\\(f(\"\\(b)\\\"\"\n))\"\"\"", &[(Class::Str, 0, 25)]),
+    (
+        "\"\"\"a\n\"\"\\(f(\"\\(b)\\\"\"\n))\"\"\"",
+        &[(Class::Str, 0, 25)],
+    ),
     ("#\"a\\#(b)\\(c\"#", &[(Class::Str, 0, 13)]),
     ("\"\\(#file /* ) */)\"", &[(Class::Str, 0, 18)]),
 ];
