@@ -1,142 +1,139 @@
 -- A text has an outcome.
-use Rattle.std.proofs.Common.{◌≡◌, ℕ, zero, suc, ◌+◌, ◌<◌, ◌≤◌, ◌⊎◌, inl, inr, Bool, true, false, eqb, List, [], ◌∷◌, ◌++◌, length, take, drop, Some, None, Ok, Err, sym, refl, ap, subst, arith, ◌∙◌, ◌==◌, append-nil, take-append-drop}
-use Rattle.std.specs.List.{AllPass}
-use Rattle.std.proofs.lemmas.List.{length-take-le, length-drop, nil_from_length}
-use Rattle.std.proofs.lemmas.List.Elements.{All-nil, All-cons}
-use Rattle.std.proofs.lemmas.Bool.{false≢true, eqb-true, eqb-false}
-use Rattle.swift_lexer.specs.declared.token.Class.{Class}
-use Rattle.swift_lexer.specs.declared.token.Class.TheVariants.{Word, Quoted, Number, Str, Pound, At, Punct, Oper, LeftBracket, RightBracket}
-use Rattle.swift_lexer.specs.declared.token.Token.{Token}
-use Rattle.swift_lexer.specs.declared.token.LexKind.TheVariants.{NotYet}
-use Rattle.swift_lexer.specs.declared.bytes.TheConstants.{QUOTE}
-use Rattle.swift_lexer.specs.Bytes.{is_blank, is_word_start, is_word_part, is_operator, is_string_part, class_of}
-use Rattle.swift_lexer.specs.Runs.{StopsAt, IsRun}
-use Rattle.swift_lexer.specs.Tokens.{HasNoFront, Reads, Outcome, after_token, IsLexedFrom, ends, reads, faults}
-use Rattle.swift_lexer.specs.Fronts.{IsBody, HasNoBody, IsFrontOf}
+use Rattle.std.proofs.Common.{◌≡◌, ◌⊎◌, inl, inr, ℕ, zero, suc, ◌<◌, ◌≤◌, true, false, List, [], length, take, Option, Some, None, Ok, Err, sym, refl, subst, arith, ◌∙◌}
+use Rattle.std.proofs.lemmas.List.{take_all}
+use Rattle.std.proofs.lemmas.Bool.{cases_lt, false≢true}
+use Rattle.std.proofs.lemmas.Str.{IsUtf8-from_is_utf8, is_utf8-from_IsUtf8, IsUtf8-nil}
+use Rattle.std.specs.Str.{IsUtf8, IsValidUpTo, is_utf8, chars}
+use Rattle.swift_lexer.specs.declared.token.Class.TheVariants.{Str}
+use Rattle.swift_lexer.specs.declared.token.LexKind.TheVariants.{NotUtf8, OpenString}
+use Rattle.swift_lexer.specs.declared.found.Found.{Found}
+use Rattle.swift_lexer.specs.declared.found.Found.TheVariants as found
+use Rattle.swift_lexer.specs.declared.found.Quotes.{Quotes}
+use Rattle.swift_lexer.specs.declared.strings.Open.{Open}
+use Rattle.swift_lexer.specs.declared.strings.Open.TheVariants.{InString}
+use Rattle.swift_lexer.specs.declared.strings.Step.{Step}
+use Rattle.swift_lexer.specs.declared.strings.Step.TheVariants as step
+use Rattle.swift_lexer.specs.Fronts.{Finding, at_front}
+use Rattle.swift_lexer.specs.Strings.{Stepped, step_in}
+use Rattle.swift_lexer.specs.Tokens as of
+use Rattle.swift_lexer.specs.Tokens.{place, fault_at, string_start, String, Ending, Closes, Outcome, after_token, token_between, after_mark, IsLexedFrom, IsLexed, ill_formed, well_formed}
 use Rattle.swift_lexer.specs.Laws.{SomeTokenOutcome}
-use Rattle.swift_lexer.proofs.Fronts.{word_goes_on, number_goes_on, operator_goes_on, pound_goes_on, string_closes, string_goes_on, quote_again, token_at_front, no_front_in_nothing, no_front_without_class, no_front_without_body}
-use Rattle.swift_lexer.proofs.Reading.{stops_behind_blanks, token_length}
+use Rattle.swift_lexer.proofs.Leaving.{Passes-shorter, Passes-then, at_front-passes, step_in-passes}
+use Rattle.swift_lexer.proofs.Endings.{Closes-passes}
 
--- each text begins with a longest run
-run_of : (test : ℕ → Bool) (text : List ℕ) → (n : ℕ) × IsRun test text n
-run_of test [] = (0, record { within = omega arith; pass = All-nil (λ b. test b ≡ true); stops = tt })
-run_of test (byte ∷ bytes) =
-    elim (test byte) as (λ b. test byte ≡ b → (n : ℕ) × IsRun test (byte ∷ bytes) n) [
-      | true ↦ λ passes.
-          let others = run_of test bytes in
-          (suc others.0, record { within = omega (arith, others.1.within); pass = All-cons (λ b. test b ≡ true) byte (take others.0 bytes) passes others.1.pass; stops = others.1.stops })
-      | false ↦ λ fails. (0, record { within = omega arith; pass = All-nil (λ b. test b ≡ true); stops = fails })
+-- shorter texts have endings
+abbrev Shorter : ℕ → List ℕ → Type 0
+Shorter total text = (around : Open) (start : ℕ) (next : List ℕ) → length next < length text → (ending : Ending) × Closes total around start next ending
+
+closes_inner : (total : ℕ) (around : Open) (start : ℕ) (text : List ℕ) → Shorter total text → (inner : Open) (rest : List ℕ) → step_in around text ≡ Some (step.Opens inner, rest) → (inside : Ending) → Closes total inner (string_start inner start (place total text)) rest inside → (ending : Ending) × Closes total around start text ending
+closes_inner total around start text shorter inner rest is (Err fault) closes = (Err fault, of.breaks inner rest fault is closes)
+closes_inner total around start text shorter inner rest is (Ok after) closes =
+    let passes = Passes-then text rest after (step_in-passes around text (step.Opens inner) rest is tt) (Closes-passes total inner (string_start inner start (place total text)) rest after closes) in
+    let others = shorter around start after (Passes-shorter text after passes) in
+    (others.0, of.opens inner rest after is closes others.1)
+
+closes_step : (total : ℕ) (around : Open) (start : ℕ) (text : List ℕ) → Shorter total text → (what : Step) (rest : List ℕ) → step_in around text ≡ Some (what, rest) → (ending : Ending) × Closes total around start text ending
+closes_step total around start text shorter step.Ends rest is = (Ok rest, of.ends rest is)
+closes_step total around start text shorter step.GoesOn rest is =
+    let others = shorter around start rest (Passes-shorter text rest (step_in-passes around text step.GoesOn rest is tt)) in
+    (others.0, of.goes_on rest is others.1)
+closes_step total around start text shorter (step.Opens inner) rest is =
+    let inside = shorter inner (string_start inner start (place total text)) rest (Passes-shorter text rest (step_in-passes around text (step.Opens inner) rest is tt)) in
+    closes_inner total around start text shorter inner rest is inside.0 inside.1
+closes_step total around start text shorter (step.Fails kind) rest is = (Err (fault_at total rest kind), of.fails kind rest is)
+
+closes_stepped : (total : ℕ) (around : Open) (start : ℕ) (text : List ℕ) → Shorter total text → (stepped : Option Stepped) → step_in around text ≡ stepped → (ending : Ending) × Closes total around start text ending
+closes_stepped total around start text shorter None is = (Err (record { at = start; kind = OpenString }), of.stays_open is)
+closes_stepped total around start text shorter (Some stepped) is = closes_step total around start text shorter stepped.0 stepped.1 is
+
+closes_some : (total fuel : ℕ) (around : Open) (start : ℕ) (text : List ℕ) → length text < fuel → (ending : Ending) × Closes total around start text ending
+closes_some total zero around start text short = absurd (omega arith)
+closes_some total (suc fuel) around start text short =
+    closes_stepped total around start text (λ inner begun next less. closes_some total fuel inner begun next (omega arith)) (step_in around text) refl
+
+-- shorter texts have outcomes
+abbrev LexedShorter : ℕ → List ℕ → Type 0
+LexedShorter total text = (trivia : ℕ) (next : List ℕ) → length next < length text → (outcome : Outcome) × IsLexedFrom total trivia next outcome
+
+lexed_string : (total trivia : ℕ) (text : List ℕ) → LexedShorter total text → (marks : Quotes) (inside : List ℕ) → at_front text ≡ Some (found.Opens marks, inside) → (ending : Ending) → String total marks text inside ending → (outcome : Outcome) × IsLexedFrom total trivia text outcome
+lexed_string total trivia text shorter marks inside is (Err fault) closes = (Err fault, of.breaks marks inside fault is closes)
+lexed_string total trivia text shorter marks inside is (Ok rest) closes =
+    let passes = Passes-then text inside rest (at_front-passes text (found.Opens marks) inside is tt) (Closes-passes total (InString marks) (place total text) inside rest closes) in
+    let later = shorter (place total rest) rest (Passes-shorter text rest passes) in
+    (after_token (token_between total trivia Str text rest) later.0, of.quotes marks inside rest later.0 is closes later.1 refl)
+
+lexed_step : (total trivia : ℕ) (text : List ℕ) → LexedShorter total text → (what : Found) (rest : List ℕ) → at_front text ≡ Some (what, rest) → (outcome : Outcome) × IsLexedFrom total trivia text outcome
+lexed_step total trivia text shorter found.Trivia rest is =
+    let later = shorter trivia rest (Passes-shorter text rest (at_front-passes text found.Trivia rest is tt)) in
+    (later.0, of.passes rest is later.1)
+lexed_step total trivia text shorter (found.Token class) rest is =
+    let later = shorter (place total rest) rest (Passes-shorter text rest (at_front-passes text (found.Token class) rest is tt)) in
+    (after_token (token_between total trivia class text rest) later.0, of.reads class rest later.0 is later.1 refl)
+lexed_step total trivia text shorter (found.Opens marks) inside is =
+    let ending = closes_some total (suc (length inside)) (InString marks) (place total text) inside (omega arith) in
+    lexed_string total trivia text shorter marks inside is ending.0 ending.1
+lexed_step total trivia text shorter (found.Fails kind) here is = (Err (fault_at total here kind), of.fails kind here is)
+
+lexed_finding : (total trivia : ℕ) (text : List ℕ) → LexedShorter total text → (finding : Option Finding) → at_front text ≡ finding → (outcome : Outcome) × IsLexedFrom total trivia text outcome
+lexed_finding total trivia text shorter None is = (Ok [], of.ends is)
+lexed_finding total trivia text shorter (Some finding) is = lexed_step total trivia text shorter finding.0 finding.1 is
+
+lexed_some : (total fuel trivia : ℕ) (text : List ℕ) → length text < fuel → (outcome : Outcome) × IsLexedFrom total trivia text outcome
+lexed_some total zero trivia text short = absurd (omega arith)
+lexed_some total (suc fuel) trivia text short =
+    lexed_finding total trivia text (λ begun next less. lexed_some total fuel begun next (omega arith)) (at_front text) refl
+
+-- the longest front of at most so many bytes that is UTF-8
+record IsLongest (text : List ℕ) (most size : ℕ) : Type 0 where
+  within : size ≤ most
+  utf8 : IsUtf8 (take size text)
+  longest : (longer : ℕ) → size < longer → longer ≤ most → IsUtf8 (take longer text) → ⊥
+
+longest_front : (text : List ℕ) (most : ℕ) → (size : ℕ) × IsLongest text most size
+longest_front text zero = (0, record { within = omega arith; utf8 = IsUtf8-nil; longest = λ longer more at_most utf8. absurd (omega arith) })
+longest_front text (suc most) =
+    elim (is_utf8 (take (suc most) text)) as (λ b. is_utf8 (take (suc most) text) ≡ b → (size : ℕ) × IsLongest text (suc most) size) [
+      | true ↦ λ is. (suc most, record { within = omega arith; utf8 = IsUtf8-from_is_utf8 (take (suc most) text) is; longest = λ longer more at_most utf8. absurd (omega arith) })
+      | false ↦ λ is_not.
+          let shorter = longest_front text most in (
+            shorter.0,
+            record {
+              within = omega (arith, shorter.1.within);
+              utf8 = shorter.1.utf8;
+              longest = λ longer more at_most utf8. elim (cases_lt most longer) [
+                | inl above ↦
+                    let whole : longer ≡ suc most = omega arith in
+                    false≢true (sym is_not ∙ is_utf8-from_IsUtf8 (take (suc most) text) (subst (λ n. IsUtf8 (take n text)) whole utf8))
+                | inr below ↦ shorter.1.longest longer more below utf8
+              ];
+            },
+          )
     ] refl
 
-abbrev Body : Class → List ℕ → Type 0
-Body class text = ((n : ℕ) × IsBody class text n) ⊎ HasNoBody class text
-
-none_longer : (longer : List ℕ) → longer ≡ [] → length longer ≤ 0
-none_longer longer nothing = omega (arith, ap length nothing)
-
--- a string goes on to a quote behind its plain bytes, which no quote follows
-quote_ahead : (rest : List ℕ) → StopsAt (λ byte. byte == QUOTE) rest ⊎ ((others : List ℕ) × (rest ≡ QUOTE ∷ others))
-quote_ahead [] = inl tt
-quote_ahead (byte ∷ bytes) =
-    elim (eqb byte QUOTE) as (λ b. eqb byte QUOTE ≡ b → StopsAt (λ c. c == QUOTE) (byte ∷ bytes) ⊎ ((others : List ℕ) × (byte ∷ bytes ≡ QUOTE ∷ others))) [
-      | true ↦ λ is. inr (bytes, ap (λ b. b ∷ bytes) (eqb-true byte QUOTE is))
-      | false ↦ λ is_not. inl is_not
-    ] refl
-
-module _ (text : List ℕ) (n : ℕ) (run : IsRun is_string_part text n) where
-  string_behind : (tail : List ℕ) → drop n text ≡ tail → Body Str text
-  string_behind [] split = inr (λ bytes after same closes follows. let found = string_closes text [] n run split bytes after same closes in cc)
-  string_behind (quote ∷ rest) split =
-      elim (eqb quote QUOTE) as (λ b. eqb quote QUOTE ≡ b → Body Str text) [
-        | true ↦ λ is. elim (quote_ahead rest) [
-          | inl stops ↦ inl (n + 1, string_goes_on text rest n quote run split (eqb-true quote QUOTE is) stops)
-          | inr again ↦ inr (λ bytes after same closes follows.
-              let found = string_closes text (quote ∷ rest) n run split bytes after same closes in
-              let same_rest : after ≡ rest = cc in
-              quote_again after again.0 (same_rest ∙ again.1) follows)
-        ]
-        | false ↦ λ is_not. inr (λ bytes after same closes follows.
-            let found = string_closes text (quote ∷ rest) n run split bytes after same closes in
-            let is : quote ≡ QUOTE = cc in
-            eqb-false quote QUOTE is_not is)
-      ] refl
-
--- a pound goes on with a word
-pound_body : (text : List ℕ) → Body Pound text
-pound_body [] = inr no_word
-  where
-    no_word : HasNoBody Pound []
-    no_word [] after same word follows = word
-    no_word (byte ∷ bytes) after same word follows = cc
-pound_body (first ∷ rest) =
-    elim (is_word_start first) as (λ b. is_word_start first ≡ b → Body Pound (first ∷ rest)) [
-      | true ↦ λ starts. let run = run_of is_word_part rest in inl (suc run.0, pound_goes_on first rest run.0 starts run.1)
-      | false ↦ λ starts_not. inr (no_word starts_not)
-    ] refl
-  where
-    no_word : is_word_start first ≡ false → HasNoBody Pound (first ∷ rest)
-    no_word starts_not [] after same word follows = word
-    no_word starts_not (byte ∷ bytes) after same word follows =
-        let head : byte ≡ first = cc in
-        false≢true (sym starts_not ∙ ap is_word_start (sym head) ∙ word.0)
-
-body_of : (class : Class) (text : List ℕ) → Body class text
-body_of Word text = let run = run_of is_word_part text in inl (run.0, word_goes_on text run.0 run.1)
-body_of Number text = let run = run_of is_word_part text in inl (run.0, number_goes_on text run.0 run.1)
-body_of Oper text = let run = run_of is_operator text in inl (run.0, operator_goes_on text run.0 run.1)
-body_of Str text = let run = run_of is_string_part text in string_behind text run.0 run.1 (drop run.0 text) refl
-body_of Pound text = pound_body text
-body_of Quoted text = inr (λ bytes after same goes_on follows. goes_on)
-body_of At text = inl (0, record { within = omega arith; token = refl; followed = tt; longest = λ longer after same goes_on. none_longer longer goes_on })
-body_of Punct text = inl (0, record { within = omega arith; token = refl; followed = tt; longest = λ longer after same goes_on. none_longer longer goes_on })
-body_of LeftBracket text = inl (0, record { within = omega arith; token = refl; followed = tt; longest = λ longer after same goes_on. none_longer longer goes_on })
-body_of RightBracket text = inl (0, record { within = omega arith; token = refl; followed = tt; longest = λ longer after same goes_on. none_longer longer goes_on })
-
--- a token stands at the front of a text, or none does
-front_of : (text : List ℕ) → ((class : Class) × (n : ℕ) × IsFrontOf class text n) ⊎ HasNoFront text
-front_of [] = inr no_front_in_nothing
-front_of (first ∷ rest) =
-    elim (class_of first) as (λ found. class_of first ≡ found → ((class : Class) × (n : ℕ) × IsFrontOf class (first ∷ rest) n) ⊎ HasNoFront (first ∷ rest)) [
-      | None ↦ λ none. inr (no_front_without_class first rest none)
-      | Some class ↦ λ is. elim (body_of class rest) [
-        | inl body ↦ inl (class, suc body.0, token_at_front class first rest body.0 is body.1)
-        | inr no_body ↦ inr (no_front_without_body class first rest is no_body)
-      ]
-    ] refl
-
--- a token behind blanks is read
-token_behind : (at : ℕ) (text rest : List ℕ) (n : ℕ) → IsRun is_blank text n → rest ≡ drop n text → (class : Class) (len : ℕ) → IsFrontOf class rest len → (token : Token) × Reads at text token (drop len rest) × (length (drop len rest) < length text)
-token_behind at text rest n run is_rest class len is =
-    let token : Token = record { class = class; start = at + n; end = at + n + len; trivia = at } in
-    let blanks_length = length-take-le n text run.within in
-    let bytes_length = length-take-le len rest is.within in
-    let some = token_length class (take len rest) is.front.token in
-    let split : text ≡ take n text ++ (take len rest ++ drop len rest) = sym (take-append-drop n text) ∙ ap (λ l. take n text ++ l) (sym is_rest ∙ sym (take-append-drop len rest)) in (
-      token,
-      record { blanks = take n text; bytes = take len rest; split = split; blank = run.pass; front = is.front; trivia = refl; start = omega (arith, blanks_length); end = omega (arith, blanks_length, bytes_length) },
-      omega (arith, length-drop len rest, ap length is_rest, length-drop n text, some, bytes_length, is.within),
-    )
-
-lexed_from : (fuel at : ℕ) (text : List ℕ) → length text ≤ fuel → (outcome : Outcome) × IsLexedFrom at text outcome
-lexed_from zero at text short = (Ok [], ends (subst (AllPass is_blank) (sym (nil_from_length text (omega arith))) (All-nil (λ b. is_blank b ≡ true))))
-lexed_from (suc fuel) at text short =
-    let run = run_of is_blank text in
-    let n = run.0 in
-    let rest = drop n text in
-    elim (front_of rest) [
-      | inl front ↦
-          let read = token_behind at text rest n run.1 refl front.0 front.1 front.2 in
-          let later = lexed_from fuel read.0.end (drop front.1 rest) (omega (arith, read.2)) in
-          (after_token read.0 later.0, reads read.0 (drop front.1 rest) later.0 read.1 later.1 refl)
-      | inr none ↦ nothing_behind at text n run.1 rest refl none
+-- a text is UTF-8, or it has a first ill-formed sequence
+utf8_or_not : (text : List ℕ) → IsUtf8 text ⊎ ((valid : ℕ) × IsValidUpTo text valid)
+utf8_or_not text =
+    let front = longest_front text (length text) in
+    elim (cases_lt front.0 (length text)) [
+      | inl short ↦ inr (
+        front.0,
+        record {
+          short = short;
+          front = front.1.utf8;
+          longest = λ longer more utf8. elim (cases_lt (length text) longer) [
+            | inl past ↦ front.1.longest (length text) short (omega arith) (subst IsUtf8 (take_all longer text (omega arith) ∙ sym (take_all (length text) text (omega arith))) utf8)
+            | inr within ↦ front.1.longest longer more within utf8
+          ];
+        },
+      )
+      | inr whole ↦ inl (subst IsUtf8 (take_all front.0 text whole) front.1.utf8)
     ]
-  where
-    nothing_behind : (at : ℕ) (text : List ℕ) (n : ℕ) → IsRun is_blank text n → (rest : List ℕ) → rest ≡ drop n text → HasNoFront rest → (outcome : Outcome) × IsLexedFrom at text outcome
-    nothing_behind at text n run [] is_rest none =
-        let all : take n text ≡ text = sym (append-nil (take n text)) ∙ ap (λ l. take n text ++ l) is_rest ∙ take-append-drop n text in
-        (Ok [], ends (subst (AllPass is_blank) all run.pass))
-    nothing_behind at text n run (byte ∷ bytes) is_rest none =
-        (Err (record { at = at + n; kind = NotYet }), faults (record { at = at + n; kind = NotYet }) (stops_behind_blanks at text (byte ∷ bytes) n run is_rest (λ nothing. cc) none))
 
 pub some_token_outcome : SomeTokenOutcome
-some_token_outcome text = lexed_from (length text) 0 text (omega arith)
+some_token_outcome text =
+    elim (utf8_or_not text) [
+      | inl utf8 ↦
+          let lexed = lexed_some (length text) (suc (length (after_mark (chars text)))) 0 (after_mark (chars text)) (omega arith) in
+          (lexed.0, well_formed utf8 lexed.1)
+      | inr ill ↦ (Err (record { at = ill.0; kind = NotUtf8 }), ill_formed ill.0 ill.1)
+    ]

@@ -1,43 +1,46 @@
--- What a token's bytes say of it.
-use Rattle.std.proofs.Common.{◌≡◌, ℕ, ◌||◌, ◌&&◌, leb, eqb, Bool, true, false, if◌then◌else◌, ◌==◌, None, [], ◌∷◌, Some, refl, subst, arith}
-use Rattle.std.specs.Char.{is_ascii_digit}
-use Rattle.std.proofs.lemmas.List.Elements.{All-cons}
-use Rattle.swift_lexer.specs.declared.token.Class.TheVariants.{Word, Number, Str, Pound, At, Punct, Oper, LeftBracket, RightBracket}
-use Rattle.swift_lexer.specs.declared.bytes.TheConstants.{UNDERSCORE, QUOTE, POUND, AT}
-use Rattle.swift_lexer.specs.Bytes.{is_word_start, is_word_part, is_punctuation, is_operator, is_left_bracket, is_right_bracket, class_of}
-use Rattle.swift_lexer.specs.Tokens.{IsToken}
+-- The bytes of a token, by its class.
+use Rattle.std.proofs.Common.{◌≡◌, ℕ, ◌<◌, true, List, [], ◌∷◌, ◌++◌, length, slice_index, sym, refl, ap, subst, arith, ◌∙◌}
+use Rattle.std.specs.Str.{encode_utf8_all}
+use Rattle.std.proofs.lemmas.Bool.Decides.{nat_tests}
+use Rattle.std.proofs.lemmas.Str.{length-le-encodes, encode_ascii}
+use Rattle.swift_lexer.specs.Bytes.{is_left_bracket, is_right_bracket}
+use Rattle.swift_lexer.specs.declared.token.Class.TheVariants.{LeftBracket, RightBracket}
+use Rattle.swift_lexer.specs.Spellings.{IsToken, Spells}
+use Rattle.swift_lexer.specs.declared.token.Class.{Class}
 use Rattle.swift_lexer.specs.Laws.{TokenBytes}
 
--- one test more passes no less
-wider : (digit upper lower underscore : Bool) → ((upper || lower) || underscore) ≡ true → (((digit || upper) || lower) || underscore) ≡ true
-wider true upper lower underscore passes = refl
-wider false upper lower underscore passes = passes
+some_characters : (class : Class) (characters : List ℕ) → Spells class characters → 0 < length characters
+some_characters class [] spelled = absurd spelled
+some_characters class (c ∷ cs) spelled = omega arith
 
--- a word's first byte is one of its later ones, too
-word_start_part : (byte : ℕ) → is_word_start byte ≡ true → is_word_part byte ≡ true
-word_start_part byte starts = wider (leb 48 byte && leb byte 57) (leb 65 byte && leb byte 90) (leb 97 byte && leb byte 122) (eqb byte UNDERSCORE) starts
+pub token_length : (class : Class) (bytes : List ℕ) → IsToken class bytes → 0 < length bytes
+token_length class bytes token =
+    omega (arith, some_characters class token.characters token.spelled, length-le-encodes token.characters, ap length token.encoded)
 
--- of the rows of the table only the first gives a word
-first_row : (word number str pound at punct oper left right : Bool) → (if word then Some Word else (if number then Some Number else (if str then Some Str else (if pound then Some Pound else (if at then Some At else (if punct then Some Punct else (if oper then Some Oper else (if left then Some LeftBracket else (if right then Some RightBracket else None))))))))) ≡ Some Word → word ≡ true
-first_row true number str pound at punct oper left right is = refl
-first_row false true str pound at punct oper left right is = cc
-first_row false false true pound at punct oper left right is = cc
-first_row false false false true at punct oper left right is = cc
-first_row false false false false true punct oper left right is = cc
-first_row false false false false false true oper left right is = cc
-first_row false false false false false false true left right is = cc
-first_row false false false false false false false true right is = cc
-first_row false false false false false false false false true is = cc
-first_row false false false false false false false false false is = cc
+-- a bracket is one byte
+left_small : (c : ℕ) → is_left_bracket c ≡ true → c < 128
+left_small c is = grind (arith, nat_tests)
 
-start_of_word : (byte : ℕ) → class_of byte ≡ Some Word → is_word_start byte ≡ true
-unfolding class_of
-start_of_word byte = first_row (is_word_start byte) (is_ascii_digit byte) (byte == QUOTE) (byte == POUND) (byte == AT) (is_punctuation byte) (is_operator byte) (is_left_bracket byte) (is_right_bracket byte)
+right_small : (c : ℕ) → is_right_bracket c ≡ true → c < 128
+right_small c is = grind (arith, nat_tests)
+
+one_byte : (c : ℕ) (cs bytes : List ℕ) → c < 128 → cs ≡ [] → encode_utf8_all (c ∷ cs) ≡ bytes → c ∷ [] ≡ bytes
+one_byte c cs bytes small none encoded =
+    ap (λ l. l ++ []) (sym (encode_ascii c small)) ∙ ap (λ l. encode_utf8_all (c ∷ l)) (sym none) ∙ encoded
+
+left_bytes : (characters bytes : List ℕ) → encode_utf8_all characters ≡ bytes → Spells LeftBracket characters → (length bytes ≡ 1) × (is_left_bracket (slice_index bytes 0) ≡ true)
+left_bytes [] bytes encoded spelled = absurd spelled
+left_bytes (c ∷ cs) bytes encoded spelled =
+    subst (λ l. (length l ≡ 1) × (is_left_bracket (slice_index l 0) ≡ true)) (one_byte c cs bytes (left_small c spelled.0) spelled.1 encoded) (refl, spelled.0)
+
+right_bytes : (characters bytes : List ℕ) → encode_utf8_all characters ≡ bytes → Spells RightBracket characters → (length bytes ≡ 1) × (is_right_bracket (slice_index bytes 0) ≡ true)
+right_bytes [] bytes encoded spelled = absurd spelled
+right_bytes (c ∷ cs) bytes encoded spelled =
+    subst (λ l. (length l ≡ 1) × (is_right_bracket (slice_index l 0) ≡ true)) (one_byte c cs bytes (right_small c spelled.0) spelled.1 encoded) (refl, spelled.0)
 
 pub token_bytes : TokenBytes
-token_bytes class [] token = absurd token
-token_bytes class (byte ∷ bytes) token = (
-  omega arith,
-  token.0,
-  λ is_word. let word = subst (λ c. IsToken c (byte ∷ bytes)) is_word token in All-cons (λ b. is_word_part b ≡ true) byte bytes (word_start_part byte (start_of_word byte word.0)) word.1,
+token_bytes class bytes token = (
+  token_length class bytes token,
+  λ is. left_bytes token.characters bytes token.encoded (subst (λ c. Spells c token.characters) is token.spelled),
+  λ is. right_bytes token.characters bytes token.encoded (subst (λ c. Spells c token.characters) is token.spelled),
 )

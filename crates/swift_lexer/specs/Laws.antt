@@ -1,14 +1,14 @@
 -- Laws of the definitions.
-use Rattle.std.specs.Prelude.{◌≡◌, ℕ, ◌<◌, ◌≤◌, List, length, slice_index, Ok, Some}
-use Rattle.std.specs.List.{AllPass}
-use Rattle.swift_lexer.specs.Bytes.{is_word_part, class_of}
-use Rattle.swift_lexer.specs.Tokens.{IsToken, Outcome, IsLexed}
+use Rattle.std.specs.Prelude.{◌≡◌, ℕ, ◌<◌, ◌≤◌, List, length, slice_index, Ok, true}
+use Rattle.swift_lexer.specs.Bytes.{is_left_bracket, is_right_bracket}
+use Rattle.swift_lexer.specs.Spellings.{IsToken}
+use Rattle.swift_lexer.specs.Tokens.{Outcome, IsLexed}
 use Rattle.swift_lexer.specs.Tiles.{TokensTile}
 use Rattle.swift_lexer.specs.Trees.{Forest, forest_tokens, forest_depth, AreMatched}
 use Rattle.swift_lexer.specs.Groups.{GroupOutcome, IsGrouped}
 use Rattle.swift_lexer.specs.declared.element.TheConstants.{DEEPEST}
 use Rattle.swift_lexer.specs.declared.token.Class.{Class}
-use Rattle.swift_lexer.specs.declared.token.Class.TheVariants.{Word}
+use Rattle.swift_lexer.specs.declared.token.Class.TheVariants.{LeftBracket, RightBracket}
 use Rattle.swift_lexer.specs.declared.token.Token.{Token}
 
 -- a text has at most one outcome
@@ -23,9 +23,11 @@ SomeTokenOutcome = (text : List ℕ) → (outcome : Outcome) × IsLexed text out
 abbrev pub TokensOfATextTile : Type 0
 TokensOfATextTile = (text : List ℕ) (tokens : List Token) → IsLexed text (Ok tokens) → TokensTile text tokens
 
--- a token has a byte, its first byte decides its class, and a word has word characters alone
+-- a token has a byte, and a bracket is one byte
 abbrev pub TokenBytes : Type 0
-TokenBytes = (class : Class) (bytes : List ℕ) → IsToken class bytes → (0 < length bytes) × (class_of (slice_index bytes 0) ≡ Some class) × (class ≡ Word → AllPass is_word_part bytes)
+TokenBytes = (class : Class) (bytes : List ℕ) → IsToken class bytes → (0 < length bytes)
+    × (class ≡ LeftBracket → (length bytes ≡ 1) × (is_left_bracket (slice_index bytes 0) ≡ true))
+    × (class ≡ RightBracket → (length bytes ≡ 1) × (is_right_bracket (slice_index bytes 0) ≡ true))
 
 -- the tokens of a text have at most one grouping
 abbrev pub OneGroupOutcome : Type 0

@@ -1,10 +1,13 @@
 pub mod Answers
 pub mod Bytes
+pub mod Chars
 pub mod Fronts
 pub mod Groups
 pub mod Laws
 pub mod Openings
-pub mod Runs
+pub mod Spellings
+pub mod Strings
+pub mod Texts
 pub mod Tiles
 pub mod Tokens
 pub mod Trees

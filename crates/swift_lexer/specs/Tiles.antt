@@ -1,8 +1,6 @@
 -- How tokens and trivia lie in a text: this project's own words.
-use Rattle.std.specs.Prelude.{◌≡◌, ℕ, ◌<◌, ◌≤◌, List, [], ◌∷◌, length, drop, slice_range, All}
-use Rattle.std.specs.List.{AllPass}
-use Rattle.swift_lexer.specs.Bytes.{is_blank}
-use Rattle.swift_lexer.specs.Tokens.{IsToken}
+use Rattle.std.specs.Prelude.{◌≡◌, ℕ, ◌<◌, ◌≤◌, List, [], ◌∷◌, length, slice_range, All}
+use Rattle.swift_lexer.specs.Spellings.{IsToken}
 use Rattle.swift_lexer.specs.declared.token.Token.{Token}
 
 -- the bytes of a token
@@ -14,7 +12,6 @@ pub record IsTile (text : List ℕ) (token : Token) : Type 0 where
   pub trivia : token.trivia ≤ token.start
   pub some : token.start < token.end
   pub within : token.end ≤ length text
-  pub blank : AllPass is_blank (slice_range text token.trivia token.start)
   pub spelled : IsToken token.class (bytes_of text token)
 
 -- the trivia of each token begins at the end of the one before, that of the first at `at`
@@ -22,13 +19,7 @@ abbrev pub Chained : ℕ → List Token → Type 0
 Chained at [] = Unit {0}
 Chained at (token ∷ tokens) = (token.trivia ≡ at) × Chained token.end tokens
 
--- the end of the last token
-abbrev pub last_end : ℕ → List Token → ℕ
-last_end at [] = at
-last_end at (token ∷ tokens) = last_end token.end tokens
-
 -- tokens and trivia tile the text
 pub record TokensTile (text : List ℕ) (tokens : List Token) : Type 0 where
   pub each : All (IsTile text) tokens
   pub chained : Chained 0 tokens
-  pub behind : AllPass is_blank (drop (last_end 0 tokens) text)

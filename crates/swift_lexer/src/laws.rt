@@ -17,7 +17,7 @@ pub fn tokens_tile()
     ensures { TokensOfATextTile }
 {}
 
-/// A token has a byte, its first byte decides its class, and a word has word characters alone.
+/// A token has a byte, and a bracket is one byte.
 pub fn token_bytes()
     ensures { TokenBytes }
 {}

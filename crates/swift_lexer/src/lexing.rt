@@ -1,15 +1,18 @@
 // A text into its tokens.
 
-ghost use Rattle.std.specs.Prelude.{◌+◌, ◌<◌, ◌≤◌, ◌^◌, MatchOption, MatchResult, length};
-ghost use Rattle.std.specs.List.{AllPass};
+ghost use Rattle.std.specs.Prelude.{◌≡◌, ◌<◌, ◌≤◌, ◌^◌, length};
+ghost use Rattle.std.specs.Str.{chars};
 ghost use Rattle.swift_lexer.specs.Answers.{Answers};
-ghost use Rattle.swift_lexer.specs.Bytes.{is_blank};
-ghost use Rattle.swift_lexer.specs.Tokens.{IsLexed, Reads, StopsReading};
+ghost use Rattle.swift_lexer.specs.Tokens.{after_mark, token_between, IsLexed, IsLexedFrom};
 
-use crate::front::{Run, front_of, run_len};
+use crate::chars::BYTE_ORDER_MARK;
+use crate::found::{Found, at_front};
 use crate::refusal::Refusal;
-use crate::token::{LexFault, LexKind, Token};
+use crate::strings::{after_string, place};
+use crate::texts::{begins, behind};
+use crate::token::{Class, LexFault, LexKind, Token};
 use std::alloc::Global;
+use std::str;
 
 /// The length of the longest text that is read, in bytes.
 pub const LONGEST_TEXT: usize = 16_777_216;
@@ -19,45 +22,69 @@ pub fn lex(alloc: Global, text: &[u8]) -> Result<Vec<Token>, Refusal<LexFault>>
     requires { length text.now ≤ LONGEST_TEXT }
     ensures { Answers (λ tokens. tokens.items) result (IsLexed text.now) }
 {
-    let mut tokens = Vec::new(alloc);
-    let mut rest = text;
-    let mut at = 0;
-    'tokens: loop {
-        let (token, after) = match next_token(at, rest) {
-            Ok(Some(next)) => next,
-            Ok(None) => return Ok(tokens),
-            Err(fault) => return Err(Refusal::Fault(fault)),
-        };
-        tokens.push(token)?;
-        rest = after;
-        at = token.end;
+    match str::from_utf8(text) {
+        Ok(utf8) => lex_from(alloc, text.len(), after_mark(utf8)),
+        Err(error) => {
+            let at = error.valid_up_to() as u32;
+            let kind = LexKind::NotUtf8;
+            Err(Refusal::Fault(LexFault { at, kind }))
+        }
     }
 }
 
-/// The first token of what stands from the place `at` on, and what stands behind it.
-fn next_token(at: u32, text: &[u8]) -> Result<Option<(Token, &[u8])>, LexFault>
-    requires { at + length text.now < 2 ^ 32 }
-    ensures { MatchResult result
-        (λ next. MatchOption next (AllPass is_blank text.now) (λ (token, rest). Reads at text.now token rest.now))
-        (StopsReading at text.now) }
+/// Behind a byte order mark at the very beginning.
+fn after_mark(text: &str) -> &str
+    ensures { chars result.now ≡ after_mark (chars text.now) }
 {
-    let blank = run_len(text, Run::Blank);
-    let (_, rest) = text.split_at(blank);
-    if rest.is_empty() {
-        return Ok(None);
+    if begins(text, BYTE_ORDER_MARK) {
+        behind(text)
+    } else {
+        text
     }
-    let start = at + blank as u32;
-    let Some((class, len)) = front_of(rest) else {
-        let kind = LexKind::NotYet;
-        return Err(LexFault { at: start, kind });
-    };
-    let (_, after) = rest.split_at(len);
-    let end = start + len as u32;
-    let token = Token {
+}
+
+fn lex_from(alloc: Global, total: usize, text: &str) -> Result<Vec<Token>, Refusal<LexFault>>
+    requires { total < 2 ^ 32 }
+    ensures { Answers (λ tokens. tokens.items) result (IsLexedFrom total 0 (chars text.now)) }
+{
+    let mut tokens = Vec::new(alloc);
+    let mut rest = text;
+    let mut trivia = 0;
+    'tokens: while let Some((what, after)) = at_front(rest) {
+        match what {
+            Found::Trivia => rest = after,
+            Found::Token(class) => {
+                let token = token_between(total, trivia, class, rest, after);
+                tokens.push(token)?;
+                rest = after;
+                trivia = token.end;
+            }
+            Found::Opens(quotes) => {
+                let behind = after_string(alloc, total, quotes, place(total, rest), after)?;
+                let token = token_between(total, trivia, Class::Str, rest, behind);
+                tokens.push(token)?;
+                rest = behind;
+                trivia = token.end;
+            }
+            Found::Fails(kind) => {
+                let at = place(total, after);
+                return Err(Refusal::Fault(LexFault { at, kind }));
+            }
+        }
+    }
+    Ok(tokens)
+}
+
+fn token_between(total: usize, trivia: u32, class: Class, text: &str, rest: &str) -> Token
+    requires { total < 2 ^ 32 }
+    ensures { result ≡ token_between total trivia class (chars text.now) (chars rest.now) }
+{
+    let start = place(total, text);
+    let end = place(total, rest);
+    Token {
         class,
         start,
         end,
-        trivia: at,
-    };
-    Ok(Some((token, after)))
+        trivia,
+    }
 }

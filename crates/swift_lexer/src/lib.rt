@@ -4,12 +4,15 @@
 #![tactic(auto)]
 
 mod bytes;
+mod chars;
 mod element;
-mod front;
+mod found;
 mod grouping;
 mod laws;
 mod lexing;
 mod refusal;
+mod strings;
+mod texts;
 mod token;
 
 pub use element::{DEEPEST, Element, GroupFault, GroupKind};
@@ -20,6 +23,7 @@ pub use laws::{
 };
 pub use lexing::{LONGEST_TEXT, lex};
 pub use refusal::Refusal;
+pub use strings::BUILTIN_WORDS;
 pub use token::{Class, LexFault, LexKind, Token};
 
 #[cfg(test)]

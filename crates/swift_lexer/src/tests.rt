@@ -11,29 +11,88 @@ use std::test::Fail;
 const STRINGIFY: &str =
     "@freestanding(expression) macro stringify<T>(_ value: T) -> (T, String) = #externalMacro(module: \"SampleMacros\", type: \"StringifyMacro\")";
 
-const UNREAD: [(&str, u32); 22] = [
-    (".", 0),
-    ("a.b", 1),
-    ("a /b", 2),
-    ("a // b", 2),
-    ("\\", 0),
-    ("`a`", 0),
-    ("a $b", 2),
-    ("a'", 1),
-    ("#", 0),
-    ("a # b", 2),
-    ("a#1", 1),
-    ("##a", 0),
-    ("a\rb", 1),
-    ("a\tb", 1),
-    ("a \u{7f}", 2),
-    ("a \u{e9}", 2),
-    ("x \"ab", 2),
-    ("x \"a\\n\"", 2),
-    ("x \"a\"\"", 2),
-    ("\"\"\"a\"\"\"", 0),
-    ("\"a\nb\"", 0),
-    ("\"a\tb\"", 0),
+/// Texts that are read, with the class and the places of each token.
+const READ: [(&str, &[(Class, u32, u32)]); 21] = [
+    ("", &[]),
+    (" \n\t\r\u{b}\u{c}", &[]),
+    ("\u{feff}a", &[(Class::Word, 3, 4)]),
+    (
+        "a+#b",
+        &[
+            (Class::Word, 0, 1),
+            (Class::Oper, 1, 2),
+            (Class::Pound, 2, 4),
+        ],
+    ),
+    ("x//c", &[(Class::Word, 0, 1)]),
+    ("x//c\ry", &[(Class::Word, 0, 1), (Class::Word, 5, 6)]),
+    ("+/*c*/-", &[(Class::Oper, 0, 1), (Class::Oper, 6, 7)]),
+    (
+        "a/*/*b*/c*/d",
+        &[(Class::Word, 0, 1), (Class::Word, 11, 12)],
+    ),
+    (
+        "a..<b",
+        &[
+            (Class::Word, 0, 1),
+            (Class::Oper, 1, 4),
+            (Class::Word, 4, 5),
+        ],
+    ),
+    ("...", &[(Class::Oper, 0, 3)]),
+    ("+..", &[(Class::Oper, 0, 1), (Class::Oper, 1, 3)]),
+    (".5", &[(Class::Punct, 0, 1), (Class::Number, 1, 2)]),
+    (
+        "1.5e3.f",
+        &[
+            (Class::Number, 0, 5),
+            (Class::Punct, 5, 6),
+            (Class::Word, 6, 7),
+        ],
+    ),
+    ("a$0", &[(Class::Word, 0, 1), (Class::Word, 1, 3)]),
+    ("`a b`", &[(Class::Quoted, 0, 5)]),
+    (
+        "\u{e9}t\u{301}\u{d7}\u{bb}",
+        &[(Class::Word, 0, 5), (Class::Oper, 5, 9)],
+    ),
+    ("\"\\(a[)\"", &[(Class::Str, 0, 7)]),
+    ("##\"a\"#\"##x", &[(Class::Str, 0, 9), (Class::Word, 9, 10)]),
+    (
+        "\"\"\"a\n\"\"\\(f(\"\\(b)\\\"\"\n))\"\"\"",
+        &[(Class::Str, 0, 25)],
+    ),
+    ("#\"a\\#(b)\\(c\"#", &[(Class::Str, 0, 13)]),
+    ("\"\\(#file /* ) */)\"", &[(Class::Str, 0, 18)]),
+];
+
+/// Texts that are refused, with the place and the kind of the first fault.
+const REFUSED: [(&[u8], u32, LexKind); 25] = [
+    (b"a '", 2, LexKind::BadCharacter),
+    (b"a \x00", 2, LexKind::BadCharacter),
+    (b"a``", 1, LexKind::BadCharacter),
+    (b"`a\n`", 0, LexKind::BadCharacter),
+    (b"a #", 2, LexKind::BadCharacter),
+    (b"#1", 0, LexKind::BadCharacter),
+    (b"#$a", 0, LexKind::BadCharacter),
+    (b"##a", 0, LexKind::BadCharacter),
+    (b" \xef\xbb\xbf", 1, LexKind::BadCharacter),
+    (b"#/a/#", 0, LexKind::ExtendedRegex),
+    (b"a ##/", 2, LexKind::ExtendedRegex),
+    (b"a /* /* */", 2, LexKind::OpenComment),
+    (b"/*/", 0, LexKind::OpenComment),
+    (b"a \"b", 2, LexKind::OpenString),
+    (b"\"a\nb\"", 0, LexKind::OpenString),
+    (b"\"a\\\nb\"", 0, LexKind::OpenString),
+    (b" \"\"\"a\"\" ", 1, LexKind::OpenString),
+    (b" #\"a\"", 1, LexKind::OpenString),
+    (b"\"a\\(b", 0, LexKind::OpenString),
+    (b"\"a\\(\"b)\"", 0, LexKind::OpenString),
+    (b"\"a\\(\"b)", 4, LexKind::OpenString),
+    (b"\"\\(#p(1))\"", 3, LexKind::UseInInterpolation),
+    (b"\"\\(#files)\"", 3, LexKind::UseInInterpolation),
+    (b"\"\\(a ')\"", 5, LexKind::BadCharacter),
+    (b"' \xff", 2, LexKind::NotUtf8),
 ];
 
 const UNGROUPED: [(&str, u32, GroupKind); 11] = [
@@ -69,13 +128,6 @@ fn grouped(
     }
 }
 
-fn has_tokens(rt: &impl Abort, alloc: Global, text: &str, wanted: &[Token]) -> bool {
-    match lexed(rt, alloc, text.as_bytes()) {
-        Ok(tokens) => tokens.as_slice() == wanted,
-        Err(_) => false,
-    }
-}
-
 fn token(class: Class, start: u32, end: u32, trivia: u32) -> Token {
     Token {
         class,
@@ -86,39 +138,25 @@ fn token(class: Class, start: u32, end: u32, trivia: u32) -> Token {
 }
 
 #[test]
-fn lexes_a_pound_word(rt: HostRuntime) {
-    let wanted = [
-        token(Class::Word, 0, 1, 0),
-        token(Class::Oper, 1, 2, 1),
-        token(Class::Pound, 2, 4, 2),
-    ];
-    assert!(rt; has_tokens(&rt, rt.alloc(), "a+#b", &wanted));
+fn reads_tokens(rt: HostRuntime) {
+    for (text, wanted) in READ {
+        match lexed(&rt, rt.alloc(), text.as_bytes()) {
+            Ok(tokens) => assert!(rt; are_chained(&tokens, wanted), "{text}"),
+            Err(_) => assert!(rt; false, "{text}"),
+        }
+    }
 }
 
-#[test]
-fn lexes_each_class(rt: HostRuntime) {
-    let wanted = [
-        token(Class::Word, 1, 4, 0),
-        token(Class::Number, 5, 9, 4),
-        token(Class::Str, 9, 14, 9),
-        token(Class::Pound, 15, 18, 14),
-        token(Class::At, 18, 19, 18),
-        token(Class::Punct, 19, 20, 19),
-        token(Class::Punct, 20, 21, 20),
-        token(Class::Oper, 23, 25, 21),
-        token(Class::LeftBracket, 25, 26, 25),
-        token(Class::RightBracket, 26, 27, 26),
-    ];
-    assert!(rt;
-        has_tokens(
-            &rt,
-            rt.alloc(),
-            " _x9 0x1F\"a'b\" #if@,:\n ->{]\n\n",
-            &wanted
-        )
-    );
-    assert!(rt; has_tokens(&rt, rt.alloc(), "", &[]));
-    assert!(rt; has_tokens(&rt, rt.alloc(), " \n ", &[]));
+/// Whether these are the classes and places of the tokens, and each trivia begins at the token before.
+fn are_chained(tokens: &[Token], wanted: &[(Class, u32, u32)]) -> bool {
+    let mut trivia = 0;
+    for (i, token) in tokens.iter().enumerate() {
+        if wanted.get(i) != Some(&(token.class, token.start, token.end)) || token.trivia != trivia {
+            return false;
+        }
+        trivia = token.end;
+    }
+    tokens.len() == wanted.len()
 }
 
 #[test]
@@ -144,12 +182,11 @@ fn reads_the_declaration_of_stringify(rt: HostRuntime) -> Result<(), Fail> {
 }
 
 #[test]
-fn refuses_the_first_place_that_is_not_read(rt: HostRuntime) {
-    for (text, at) in UNREAD {
-        let kind = LexKind::NotYet;
-        match lexed(&rt, rt.alloc(), text.as_bytes()) {
-            Err(Refusal::Fault(fault)) => assert_eq!(rt; fault, LexFault { at, kind }, "{text}"),
-            _ => assert!(rt; false, "{text}"),
+fn refuses_at_the_first_fault(rt: HostRuntime) {
+    for (text, at, kind) in REFUSED {
+        match lexed(&rt, rt.alloc(), text) {
+            Err(Refusal::Fault(fault)) => assert_eq!(rt; fault, LexFault { at, kind }),
+            _ => assert!(rt; false, "at {at}"),
         }
     }
 }

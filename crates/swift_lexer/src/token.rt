@@ -34,8 +34,6 @@ pub enum LexKind {
     OpenComment,
     ExtendedRegex,
     UseInInterpolation,
-    /// A form that isn't read yet.
-    NotYet,
 }
 
 /// The first fault of a text; `at` is its offset in bytes from 0.
