@@ -1,5 +1,5 @@
 -- What stands in a row of elements. This project's own.
-use Rattle.std.specs.Prelude.{ℕ, ◌==◌, ◌||◌, if◌then◌else◌, Bool, true, false, Option, Some, None, List, [], ◌∷◌, ◌++◌, map, slice_get, slice_range, option_and_then, codes}
+use Rattle.std.specs.Prelude.{ℕ, ◌==◌, ◌||◌, if◌then◌else◌, Bool, true, false, Option, Some, None, List, [], ◌∷◌, ◌++◌, map, slice_get, slice_range, take, option_and_then, codes}
 use Rattle.std.specs.List.{list_any}
 use Rattle.std.specs.Option.{option_map_or}
 use Rattle.std.specs.Str.{bytes_eq}
@@ -23,15 +23,20 @@ is_site class.Pound = true
 is_site class.At = true
 is_site _ = false
 
--- a line feed stands directly before the token
+-- a line feed or a carriage return stands directly before the token
 abbrev pub follows_line_feed : List ℕ → Token → Bool
-follows_line_feed text token = list_any (λ b. b == 10) (slice_range text token.trivia token.start)
+follows_line_feed text token = list_any (λ b. b == 10 || b == 13) (slice_range text token.trivia token.start)
+
+-- the name begins with `$sX`, also in backquotes
+abbrev pub is_reserved : List ℕ → Bool
+is_reserved name = bytes_eq (take 3 name) (codes "$sX") || bytes_eq (take 4 name) (codes "`$sX")
 
 abbrev pub has_mark : List ℕ → Mark → Token → Bool
 has_mark text mark.Site token = is_site token.class
 has_mark text mark.Stop token =
     is_site token.class || spells text token (codes ";") || spells text token (codes "=") || spells text token (codes "{")
 has_mark text mark.LineFeed token = follows_line_feed text token
+has_mark text mark.Reserved token = is_reserved (bytes_of text token)
 
 -- a token of the element, at any depth, has the mark
 unfoldable pub is_marked : List ℕ → Mark → Tree → Bool

@@ -13,7 +13,8 @@ use Rattle.swift_lexer.specs.Tiles.{bytes_of}
 use Rattle.expand_top.specs.Elements.{has_mark, begins_line, leaf_at, Round, round_at, spells_at}
 use Rattle.expand_top.specs.declared.elements.Mark.{Mark}
 use Rattle.expand_top.specs.declared.elements.Mark.TheVariants as mark
-use Rattle.expand_top.specs.declared.line.TheConstants.{JOINING_WORDS, BUILTIN_WORDS}
+use Rattle.expand_top.specs.declared.line.TheConstants.{JOINING_WORDS}
+use Rattle.swift_lexer.specs.declared.strings.TheConstants.{BUILTIN_WORDS}
 use Rattle.expand_top.specs.declared.line.Line.{Line}
 use Rattle.expand_top.specs.declared.line.Line.TheVariants as line
 
@@ -55,9 +56,25 @@ has_class_at test trees k = option_map_or (λ token. test token.class) (leaf_at 
 abbrev pub place_behind : ℕ → ℕ
 place_behind at = min (at + 1) (2 ^ 32 - 1)
 
--- what stands between a string's quotes, where the element at a place is one
-abbrev pub quoted_at : List Tree → ℕ → Option Span
-quoted_at trees k = option_and_then (λ token. if is_string token.class then Some (record { start = place_behind token.start; end = token.end - 1 }) else None) (leaf_at trees k)
+abbrev pub begins_with_quote : List ℕ → Bool
+begins_with_quote [] = false
+begins_with_quote (first ∷ more) = first == 34
+
+abbrev pub is_plain : List ℕ → Bool
+is_plain inside = not (list_any (λ b. b == 34 || b == 92) inside)
+
+abbrev pub inside_of : Token → Span
+inside_of token = record { start = place_behind token.start; end = token.end - 1 }
+
+-- what stands between the quotes of a string of one line without `\`
+abbrev pub quoted : List ℕ → Token → Option Span
+quoted text token =
+    if is_string token.class && begins_with_quote (bytes_of text token) && is_plain (text_at text (inside_of token))
+    then Some (inside_of token)
+    else None
+
+abbrev pub quoted_at : List ℕ → List Tree → ℕ → Option Span
+quoted_at text trees k = option_and_then (quoted text) (leaf_at trees k)
 
 -- the name of a word, where the element at a place is one
 abbrev pub word_at : List Tree → ℕ → Option Span
@@ -100,7 +117,7 @@ abbrev pub declaration_by : List ℕ → List Tree → Option Round → Option L
 declaration_by text trees None = None
 declaration_by text trees (Some group) =
     if names_external text group.inner
-    then declared (word_at trees 4) (quoted_at group.inner 2) (quoted_at group.inner 6)
+    then declared (word_at trees 4) (quoted_at text group.inner 2) (quoted_at text group.inner 6)
     else None
 
 abbrev pub declaration_line : List ℕ → List Tree → Option Line

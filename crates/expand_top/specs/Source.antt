@@ -1,5 +1,5 @@
 -- What a source of the one form that is read so far means. This project's own.
-use Rattle.std.specs.Prelude.{◌≡◌, ℕ, ◌&&◌, nat_le, if◌then◌else◌, Option, Some, None, option_map, option_and_then, Ok, Err, List, [], ◌∷◌, length, map, slice_get}
+use Rattle.std.specs.Prelude.{◌≡◌, ℕ, ◌&&◌, ◌||◌, nat_le, if◌then◌else◌, Option, Some, None, option_map, option_and_then, Ok, Err, List, [], ◌∷◌, length, map, slice_get}
 use Rattle.std.specs.List.{list_any, filter_map}
 use Rattle.swift_base.specs.Names.{are_distinct}
 use Rattle.swift_lexer.specs.declared.token.Token.{Token}
@@ -9,7 +9,8 @@ use Rattle.swift_lexer.specs.Tokens.{IsLexed}
 use Rattle.swift_lexer.specs.Groups.{IsGrouped}
 use Rattle.swift_lexer.specs.Trees.{Tree, forest_from}
 use Rattle.expand_top.specs.Elements.{spans_lines}
-use Rattle.expand_top.specs.Form.{line_of, lines_from, text_at}
+use Rattle.expand_top.specs.Form.{line_of, lines_from, text_at, any_marked}
+use Rattle.expand_top.specs.declared.elements.Mark.TheVariants as mark
 use Rattle.expand_top.specs.declared.line.Declaration.{Declaration}
 use Rattle.expand_top.specs.declared.line.MacroUse.{MacroUse}
 use Rattle.expand_top.specs.declared.line.Line.{Line}
@@ -48,9 +49,12 @@ form_by text lines =
     then Some (record { declarations = filter_map declared_by lines; macro_use = slice_get (filter_map used_by lines) 0 })
     else None
 
--- no group goes on in a further line, and each line is of the form
+-- no group goes on in a further line, no name is a reserved one, and each line is of the form
 unfoldable pub form_of : List ℕ → List Tree → Option Form
-form_of text trees = if list_any (spans_lines text) trees then None else option_and_then (form_by text) (lines_of text trees)
+form_of text trees =
+    if list_any (spans_lines text) trees || any_marked text mark.Reserved trees
+    then None
+    else option_and_then (form_by text) (lines_of text trees)
 
 -- The elements of a text, where its tokens and brackets are accepted.
 pub data HasElements (text : List ℕ) : Option (List Tree) → Type 0 where

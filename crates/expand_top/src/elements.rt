@@ -14,8 +14,10 @@ pub enum Mark {
     Site,
     /// The same, `;`, `=` or `{`.
     Stop,
-    /// A line feed before it.
+    /// A line feed or carriage return before it.
     LineFeed,
+    /// A name that begins as the names that are made for expansions do.
+    Reserved,
 }
 
 // The first n elements, or all where there are fewer.
@@ -67,7 +69,7 @@ fn follows_line_feed(text: &[u8], token: Token) -> bool
 {
     part(text, token.trivia, token.start)
         .iter()
-        .any(|b| *b == b'\n')
+        .any(|b| *b == b'\n' || *b == b'\r')
 }
 
 fn is_stop(text: &[u8], token: Token) -> bool
@@ -79,6 +81,13 @@ fn is_stop(text: &[u8], token: Token) -> bool
         || spells(text, token, b"{")
 }
 
+fn is_reserved(text: &[u8], token: Token) -> bool
+    ensures { result ≡ has_mark text.now Mark.Reserved token }
+{
+    let bytes = part(text, token.start, token.end);
+    front(bytes, 3) == b"$sX".as_slice() || front(bytes, 4) == b"`$sX".as_slice()
+}
+
 fn has_mark(text: &[u8], mark: Mark, token: Token) -> bool
     ensures { result ≡ has_mark text.now mark token }
 {
@@ -86,6 +95,7 @@ fn has_mark(text: &[u8], mark: Mark, token: Token) -> bool
         Mark::Site => is_site(token.class),
         Mark::Stop => is_stop(text, token),
         Mark::LineFeed => follows_line_feed(text, token),
+        Mark::Reserved => is_reserved(text, token),
     }
 }
 

@@ -5,10 +5,10 @@ ghost use Rattle.std.specs.Str.{bytes_eq};
 ghost use Rattle.swift_base.specs.Names.{are_distinct};
 ghost use Rattle.swift_lexer.specs.Trees.{tree_of, forest_of};
 ghost use Rattle.expand_top.specs.Elements.{begins_line, spans_lines};
-ghost use Rattle.expand_top.specs.Form.{line_of, lines_from, text_at};
+ghost use Rattle.expand_top.specs.Form.{line_of, lines_from, text_at, any_marked};
 ghost use Rattle.expand_top.specs.Source.{declared_by, used_by, lines_of, form_by, form_of, form_seen, HasElements, IsForm};
 
-use crate::elements::{begins_line, part, spans_lines};
+use crate::elements::{Mark, begins_line, part, row_is_marked, spans_lines};
 use crate::line::{Declaration, Line, MacroUse, line_of};
 use std::alloc::{AllocError, Global};
 use swift_lexer::{Element, LONGEST_TEXT, Refusal, group, lex};
@@ -164,7 +164,7 @@ fn form_of(
 ) -> Result<Option<SourceForm>, AllocError>
     ensures { IfOk result (λ form. option_map form_seen form ≡ form_of text.now (map tree_of elements.now)) }
 {
-    if any_spans_lines(text, elements) {
+    if any_spans_lines(text, elements) || row_is_marked(text, Mark::Reserved, elements) {
         return Ok(None);
     }
     match lines_of(alloc, text, elements)? {

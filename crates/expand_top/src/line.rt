@@ -4,44 +4,16 @@ ghost use Rattle.std.specs.List.{list_any};
 ghost use Rattle.std.specs.Str.{bytes_eq};
 ghost use Rattle.swift_lexer.specs.Trees.{tree_of};
 ghost use Rattle.expand_top.specs.Elements.{round_seen, round_at, leaf_at, spells_at};
-ghost use Rattle.expand_top.specs.Form.{is_word, is_string, is_number, is_pound, joins, is_builtin, any_marked, has_class_at, quoted_at, word_at, names_external, says_expression, begins_declaration, ends_declaration, is_declaration, declared, declaration_by, declaration_line, is_plain_token, is_plain_value, use_by, value_line, begins_binding, line_of};
+ghost use Rattle.expand_top.specs.Form.{is_word, is_string, is_number, is_pound, joins, is_builtin, any_marked, has_class_at, begins_with_quote, is_plain, inside_of, quoted, quoted_at, word_at, names_external, says_expression, begins_declaration, ends_declaration, is_declaration, declared, declaration_by, declaration_line, is_plain_token, is_plain_value, use_by, value_line, begins_binding, line_of};
 
 use crate::elements::{
     Mark, Round, behind, front, leaf_at, part, round_at, row_is_marked, spells, spells_at,
 };
 use swift_base::Span;
-use swift_lexer::{Class, Element, Token};
+use swift_lexer::{BUILTIN_WORDS, Class, Element, Token};
 
 /// Words that go on with an expression or a type, so that none of them is a value.
 pub const JOINING_WORDS: [&[u8]; 6] = [b"try", b"await", b"as", b"is", b"in", b"where"];
-
-/// Pound words that the language has built in, so that none of them is a macro.
-pub const BUILTIN_WORDS: [&[u8]; 24] = [
-    b"file",
-    b"fileID",
-    b"filePath",
-    b"line",
-    b"column",
-    b"function",
-    b"dsohandle",
-    b"selector",
-    b"keyPath",
-    b"available",
-    b"unavailable",
-    b"_hasSymbol",
-    b"if",
-    b"elseif",
-    b"else",
-    b"endif",
-    b"sourceLocation",
-    b"warning",
-    b"error",
-    b"colorLiteral",
-    b"imageLiteral",
-    b"fileLiteral",
-    b"externalMacro",
-    b"isolation",
-];
 
 /// An expression macro by the places of its name, of its module and of its type in the source.
 #[derive(Clone, Copy, Debug, PartialEq, Eq)]
@@ -123,16 +95,48 @@ fn is_word_at(elements: &[Element], k: usize) -> bool
     }
 }
 
-fn quoted_at(elements: &[Element], k: usize) -> Option<Span>
-    ensures { result ≡ quoted_at (map tree_of elements.now) k }
+fn begins_with_quote(bytes: &[u8]) -> bool
+    ensures { result ≡ begins_with_quote bytes.now }
 {
-    let token = leaf_at(elements, k)?;
-    if !is_string(token.class) {
-        return None;
+    match bytes {
+        [first, ..] => *first == b'"',
+        [] => false,
     }
-    let start = token.start.saturating_add(1);
-    let end = token.end.saturating_sub(1);
-    Some(Span { start, end })
+}
+
+fn is_plain(inside: &[u8]) -> bool
+    ensures { result ≡ is_plain inside.now }
+{
+    !inside.iter().any(|b| *b == b'"' || *b == b'\\')
+}
+
+fn inside_of(token: Token) -> Span
+    ensures { result ≡ inside_of token }
+{
+    Span {
+        start: token.start.saturating_add(1),
+        end: token.end.saturating_sub(1),
+    }
+}
+
+// What stands between the quotes of a string of one line without `\`.
+fn quoted(text: &[u8], token: Token) -> Option<Span>
+    ensures { result ≡ quoted text.now token }
+{
+    let inside = inside_of(token);
+    if is_string(token.class)
+        && begins_with_quote(part(text, token.start, token.end))
+        && is_plain(part(text, inside.start, inside.end))
+    {
+        return Some(inside);
+    }
+    None
+}
+
+fn quoted_at(text: &[u8], elements: &[Element], k: usize) -> Option<Span>
+    ensures { result ≡ quoted_at text.now (map tree_of elements.now) k }
+{
+    quoted(text, leaf_at(elements, k)?)
 }
 
 fn word_at(elements: &[Element], k: usize) -> Option<Span>
@@ -220,8 +224,8 @@ fn declaration_by(text: &[u8], elements: &[Element], group: Option<Round<'_>>) -
     }
     declared(
         word_at(elements, 4),
-        quoted_at(group.inner, 2),
-        quoted_at(group.inner, 6),
+        quoted_at(text, group.inner, 2),
+        quoted_at(text, group.inner, 6),
     )
 }
 
