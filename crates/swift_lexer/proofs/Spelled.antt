@@ -1,5 +1,5 @@
 -- What stands at a front is spelled as its class says.
-use Rattle.std.proofs.Common.{◌≡◌, ◌⊎◌, inl, inr, ℕ, suc, ◌<◌, Bool, true, false, List, [], ◌∷◌, ◌++◌, length, Some, None, if◌then◌else◌, ◌==◌, ◌&&◌, not, sym, refl, ap, subst, arith, ◌∙◌, append_assoc}
+use Rattle.std.proofs.Common.{◌≡◌, ◌⊎◌, inl, inr, ℕ, zero, suc, ◌<◌, Bool, true, false, List, [], ◌∷◌, ◌++◌, length, Some, None, if◌then◌else◌, ◌==◌, ◌&&◌, ◌||◌, not, sym, refl, ap, subst, arith, ◌∙◌, append_assoc}
 use Rattle.std.specs.List.{AllPass}
 use Rattle.std.specs.Char.{is_ascii_digit}
 use Rattle.std.specs.Prelude.{Option}
@@ -14,10 +14,12 @@ use Rattle.swift_lexer.specs.declared.token.LexKind.TheVariants.{BadCharacter, E
 use Rattle.swift_lexer.specs.declared.found.Found.{Found}
 use Rattle.swift_lexer.specs.declared.found.Found.TheVariants.{Trivia, Token, Opens, Fails}
 use Rattle.swift_lexer.specs.declared.found.Quotes.{Quotes}
-use Rattle.swift_lexer.specs.Chars.{is_line_end, is_word_part, is_name_start, is_number_part, is_operator, operator_part, is_quoted_part, front_of}
-use Rattle.swift_lexer.specs.Texts.{starts, begins, behind, after_run, begins_comment, after_operator, after_marks, after_comment, pounds}
+use Rattle.swift_lexer.specs.Chars.{is_blank, is_word_part, is_name_start, is_number_part, is_operator, operator_part, is_quoted_part, front_of}
+use Rattle.swift_lexer.specs.Texts.{ends_comment, opens_comment, starts, begins, behind, after_run, begins_comment, after_operator, after_marks, after_comment, pounds}
 use Rattle.swift_lexer.specs.Fronts.{Finding, after_fraction, opening_by, opening, comment_by, slash, quoted, pound, dot, by_front, at_front}
-use Rattle.swift_lexer.specs.Spellings.{SpellsWith}
+use Rattle.swift_lexer.specs.Spellings.{SpellsWith, StopsBefore}
+use Rattle.swift_lexer.specs.Trivia.{in_line, IsPiece, blanks, line, nested}
+use Rattle.swift_lexer.proofs.Comments.{comment_goes_on}
 use Rattle.swift_lexer.proofs.FrontKinds.{IsOfKind, front_of-kind}
 
 -- the characters that a run passes
@@ -25,6 +27,40 @@ record RunOf (test : ℕ → Bool) (text rest : List ℕ) : Type 0 where
   run : List ℕ
   split : text ≡ run ++ rest
   pass : AllPass test run
+
+after_run-stops : (test : ℕ → Bool) (text : List ℕ) → starts test (after_run test text) ≡ false
+after_run-stops test [] = refl
+after_run-stops test (c ∷ cs) =
+    elim (test c) as (λ b. test c ≡ b → starts test (if b then after_run test cs else c ∷ cs) ≡ false) [
+      | true ↦ λ passes. after_run-stops test cs
+      | false ↦ λ fails. fails
+    ] refl
+
+-- an operator goes on here
+abbrev operator_goes_on : (ℕ → Bool) → List ℕ → Bool
+operator_goes_on test text = starts test text && not (begins_comment text)
+
+after_operator-stops : (test : ℕ → Bool) (text : List ℕ) → operator_goes_on test (after_operator test text) ≡ false
+after_operator-stops test [] = refl
+after_operator-stops test (c ∷ cs) =
+    elim (test c && not (begins_comment (c ∷ cs))) as (λ b. (test c && not (begins_comment (c ∷ cs))) ≡ b → operator_goes_on test (if b then after_operator test cs else c ∷ cs) ≡ false) [
+      | true ↦ λ passes. after_operator-stops test cs
+      | false ↦ λ fails. fails
+    ] refl
+
+-- where dots go on too, characters without dots don't
+without_dots : (text : List ℕ) → operator_goes_on (operator_part true) text ≡ false → operator_goes_on (operator_part false) text ≡ false
+unfolding operator_part
+without_dots [] stops = refl
+without_dots (c ∷ cs) stops =
+    elim (c == DOT) as (λ b. ((b || is_operator c) && not (begins_comment (c ∷ cs))) ≡ false → (is_operator c && not (begins_comment (c ∷ cs))) ≡ false) [
+      | true ↦ λ dotted. absent (is_operator c) (not (begins_comment (c ∷ cs))) dotted
+      | false ↦ λ plain. plain
+    ] stops
+  where
+    absent : (one other : Bool) → other ≡ false → (one && other) ≡ false
+    absent true other is = is
+    absent false other is = refl
 
 no_run : (test : ℕ → Bool) (text : List ℕ) → RunOf test text text
 no_run test text = record { run = []; split = refl; pass = All-nil (λ c. test c ≡ true) }
@@ -58,7 +94,7 @@ starts_so : (test : ℕ → Bool) (text : List ℕ) → starts test text ≡ tru
 starts_so test [] is = absurd (false≢true is)
 starts_so test (c ∷ cs) is = record { first = c; passes = is; split = refl }
 
-begins_so : (mark : ℕ) (text : List ℕ) → begins mark text ≡ true → text ≡ mark ∷ behind text
+pub begins_so : (mark : ℕ) (text : List ℕ) → begins mark text ≡ true → text ≡ mark ∷ behind text
 begins_so mark [] is = absurd (false≢true is)
 begins_so mark (c ∷ cs) is = ap (λ d. d ∷ cs) (eqb-true c mark is)
 
@@ -81,9 +117,16 @@ record Spelled (class : Class) (c : ℕ) (rest after : List ℕ) : Type 0 where
   others : List ℕ
   split : rest ≡ others ++ after
   spelled : SpellsWith class c others
+  stops : StopsBefore class after
+
+-- trivia behind a first character
+record Passed (c : ℕ) (rest after : List ℕ) : Type 0 where
+  others : List ℕ
+  split : rest ≡ others ++ after
+  piece : IsPiece (c ∷ others)
 
 abbrev FoundSpells : Found → ℕ → List ℕ → List ℕ → Type 0
-FoundSpells Trivia c rest after = Unit {0}
+FoundSpells Trivia c rest after = Passed c rest after
 FoundSpells (Token class) c rest after = Spelled class c rest after
 FoundSpells (Opens quotes) c rest after = (c ≡ QUOTE) ⊎ (c ≡ POUND)
 FoundSpells (Fails kind) c rest after = Unit {0}
@@ -91,11 +134,11 @@ FoundSpells (Fails kind) c rest after = Unit {0}
 abbrev FindingSpells : ℕ → List ℕ → Finding → Type 0
 FindingSpells c rest finding = FoundSpells finding.0 c rest finding.1
 
-alone : (class : Class) (c : ℕ) (rest : List ℕ) → SpellsWith class c [] → Spelled class c rest rest
-alone class c rest spelled = record { others = []; split = refl; spelled = spelled }
+alone : (class : Class) (c : ℕ) (rest : List ℕ) → SpellsWith class c [] → StopsBefore class rest → Spelled class c rest rest
+alone class c rest spelled stops = record { others = []; split = refl; spelled = spelled; stops = stops }
 
 word-spells : (c : ℕ) (rest : List ℕ) → IsOfKind front.Word c → Spelled Word c rest (after_run is_word_part rest)
-word-spells c rest is = let run = after_run-run is_word_part rest in record { others = run.run; split = run.split; spelled = (is, run.pass) }
+word-spells c rest is = let run = after_run-run is_word_part rest in record { others = run.run; split = run.split; spelled = (is, run.pass); stops = after_run-stops is_word_part rest }
 
 digit_is_part : (c : ℕ) → is_ascii_digit c ≡ true → is_number_part c ≡ true
 unfolding is_number_part
@@ -119,48 +162,95 @@ number-spells c rest is =
             others = whole.run ++ (DOT ∷ run.first ∷ run.others);
             split = split ∙ sym (append_assoc whole.run (DOT ∷ run.first ∷ run.others) (after_run is_number_part (behind text)));
             spelled = (is, inr (record { whole = whole.run; digit = run.first; fraction = run.others; whole_parts = whole.pass; is_digit = subst (λ d. is_ascii_digit d ≡ true) same digit.passes; fraction_parts = run.pass; split = refl }));
+            stops = after_run-stops is_number_part (behind text);
           }
-      | false ↦ λ has_not. record { others = whole.run; split = whole.split; spelled = (is, inl whole.pass) }
+      | false ↦ λ has_not. record { others = whole.run; split = whole.split; spelled = (is, inl whole.pass); stops = after_run-stops is_number_part rest }
     ] refl
 
 -- an operator without dots
 operator-spells : (c : ℕ) (rest : List ℕ) → operator_part false c ≡ true → Spelled Oper c rest (after_operator (operator_part false) rest)
 operator-spells c rest is =
     let run = after_operator-run (operator_part false) rest in
-    record { others = run.run; split = run.split; spelled = inl (All-cons (λ d. operator_part false d ≡ true) c run.run is run.pass) }
+    record { others = run.run; split = run.split; spelled = inl (All-cons (λ d. operator_part false d ≡ true) c run.run is run.pass); stops = after_operator-stops (operator_part false) rest }
 
 dots-spell : (c : ℕ) (rest : List ℕ) → c ≡ DOT → Spelled Oper c (DOT ∷ rest) (after_operator (operator_part true) (DOT ∷ rest))
 unfolding operator_part
 dots-spell c rest is =
     let run = after_operator-run (operator_part true) rest in
-    record { others = DOT ∷ run.run; split = ap (λ l. DOT ∷ l) run.split; spelled = inr (is, (refl, run.pass)) }
+    record { others = DOT ∷ run.run; split = ap (λ l. DOT ∷ l) run.split; spelled = inr (is, (refl, run.pass)); stops = without_dots (after_operator (operator_part true) rest) (after_operator-stops (operator_part true) rest) }
 
 dot-spells : (c : ℕ) (rest : List ℕ) → c ≡ DOT → FindingSpells c rest (dot rest)
 unfolding dot
 dot-spells c rest is =
     elim (begins DOT rest) as (λ b. begins DOT rest ≡ b → FindingSpells c rest (if b then (Token Oper, after_operator (operator_part true) rest) else (Token Punct, rest))) [
       | true ↦ λ dotted. subst (λ l. Spelled Oper c l (after_operator (operator_part true) l)) (sym (begins_so DOT rest dotted)) (dots-spell c (behind rest) is)
-      | false ↦ λ single. alone Punct c rest (inr is, refl)
+      | false ↦ λ single. alone Punct c rest (inr is, refl) tt
     ] refl
 
 slash_part : operator_part false SLASH ≡ true
 unfolding operator_part is_operator
 slash_part = refl
 
-comment_by-spells : (c : ℕ) (text rest : List ℕ) (after : Option (List ℕ)) → FindingSpells c rest (comment_by text after)
-comment_by-spells c text rest None = tt
-comment_by-spells c text rest (Some after) = tt
+-- a comment is cut off where it ends
+record Cut (depth : ℕ) (text rest : List ℕ) : Type 0 where
+  inside : List ℕ
+  split : text ≡ inside ++ rest
+  ends : after_comment depth inside ≡ Some []
+
+cut_goes_on : (depth c d : ℕ) (cs rest : List ℕ) → ends_comment c d ≡ false → opens_comment c d ≡ false → Cut (suc depth) (d ∷ cs) rest → Cut (suc depth) (c ∷ d ∷ cs) rest
+cut_goes_on depth c d cs rest not_end not_open cut = longer cut.inside cut.split cut.ends
+  where
+    longer : (inside : List ℕ) → d ∷ cs ≡ inside ++ rest → after_comment (suc depth) inside ≡ Some [] → Cut (suc depth) (c ∷ d ∷ cs) rest
+    longer [] split ends = cc
+    longer (e ∷ es) split ends =
+        let same : d ≡ e = cc in
+        record {
+          inside = c ∷ e ∷ es;
+          split = ap (λ l. c ∷ l) split;
+          ends = comment_goes_on (suc depth) c e es (omega arith) (subst (λ f. ends_comment c f ≡ false) same not_end) (subst (λ f. opens_comment c f ≡ false) same not_open) ∙ ends;
+        }
+
+cut_marks : (depth inner c d : ℕ) (cs rest : List ℕ) → ((inside : List ℕ) → after_comment depth (c ∷ d ∷ inside) ≡ after_comment inner inside) → Cut inner cs rest → Cut depth (c ∷ d ∷ cs) rest
+cut_marks depth inner c d cs rest marks cut = record {
+  inside = c ∷ d ∷ cut.inside;
+  split = ap (λ l. c ∷ d ∷ l) cut.split;
+  ends = marks cut.inside ∙ cut.ends;
+}
+
+comment_cut : (depth : ℕ) (text rest : List ℕ) → after_comment depth text ≡ Some rest → Cut depth text rest
+comment_cut zero text rest is = let same : text ≡ rest = cc in record { inside = []; split = same; ends = refl }
+comment_cut (suc depth) [] rest is = cc
+comment_cut (suc depth) (c ∷ []) rest is = cc
+comment_cut (suc depth) (c ∷ d ∷ cs) rest is =
+    elim (ends_comment c d) as (λ b. ends_comment c d ≡ b → (if b then after_comment depth cs else (if opens_comment c d then after_comment (suc (suc depth)) cs else after_comment (suc depth) (d ∷ cs))) ≡ Some rest → Cut (suc depth) (c ∷ d ∷ cs) rest) [
+      | true ↦ λ ends found. cut_marks (suc depth) depth c d cs rest (λ inside. rw ends refl) (comment_cut depth cs rest found)
+      | false ↦ λ not_end. elim (opens_comment c d) as (λ b. opens_comment c d ≡ b → (if b then after_comment (suc (suc depth)) cs else after_comment (suc depth) (d ∷ cs)) ≡ Some rest → Cut (suc depth) (c ∷ d ∷ cs) rest) [
+        | true ↦ λ opens found. cut_marks (suc depth) (suc (suc depth)) c d cs rest (λ inside. rw (not_end, opens) refl) (comment_cut (suc (suc depth)) cs rest found)
+        | false ↦ λ not_open found. cut_goes_on depth c d cs rest not_end not_open (comment_cut (suc depth) (d ∷ cs) rest found)
+      ] refl
+    ] refl is
+
+comment_by-spells : (c : ℕ) (text inside : List ℕ) (after : Option (List ℕ)) → c ≡ SLASH → after_comment 1 inside ≡ after → FindingSpells c (STAR ∷ inside) (comment_by text after)
+comment_by-spells c text inside None is found = tt
+comment_by-spells c text inside (Some after) is found =
+    let cut = comment_cut 1 inside after found in
+    record { others = STAR ∷ cut.inside; split = ap (λ l. STAR ∷ l) cut.split; piece = nested (c ∷ STAR ∷ cut.inside) cut.inside (ap (λ d. d ∷ STAR ∷ cut.inside) is) cut.ends }
+
+line-spells : (c : ℕ) (rest : List ℕ) → c ≡ SLASH → Passed c (SLASH ∷ rest) (after_run in_line rest)
+line-spells c rest is =
+    let run = after_run-run in_line rest in
+    record { others = SLASH ∷ run.run; split = ap (λ l. SLASH ∷ l) run.split; piece = line (c ∷ SLASH ∷ run.run) run.run (ap (λ d. d ∷ SLASH ∷ run.run) is) run.pass }
 
 slash-spells : (c : ℕ) (rest : List ℕ) → c ≡ SLASH → FindingSpells c rest (slash (c ∷ rest) rest)
 unfolding slash
 slash-spells c rest is =
-    elim (begins SLASH rest) as (λ b. FindingSpells c rest (if b then (Trivia, after_run (λ d. not (is_line_end d)) (behind rest)) else (if begins STAR rest then comment_by (c ∷ rest) (after_comment 1 (behind rest)) else (Token Oper, after_operator (operator_part false) rest)))) [
-      | true ↦ tt
-      | false ↦ elim (begins STAR rest) as (λ b. FindingSpells c rest (if b then comment_by (c ∷ rest) (after_comment 1 (behind rest)) else (Token Oper, after_operator (operator_part false) rest))) [
-        | true ↦ comment_by-spells c (c ∷ rest) rest (after_comment 1 (behind rest))
-        | false ↦ operator-spells c rest (subst (λ d. operator_part false d ≡ true) (sym is) slash_part)
-      ]
-    ]
+    elim (begins SLASH rest) as (λ b. begins SLASH rest ≡ b → FindingSpells c rest (if b then (Trivia, after_run in_line (behind rest)) else (if begins STAR rest then comment_by (c ∷ rest) (after_comment 1 (behind rest)) else (Token Oper, after_operator (operator_part false) rest)))) [
+      | true ↦ λ lined. subst (λ l. Passed c l (after_run in_line (behind rest))) (sym (begins_so SLASH rest lined)) (line-spells c (behind rest) is)
+      | false ↦ λ not_lined. elim (begins STAR rest) as (λ b. begins STAR rest ≡ b → FindingSpells c rest (if b then comment_by (c ∷ rest) (after_comment 1 (behind rest)) else (Token Oper, after_operator (operator_part false) rest))) [
+        | true ↦ λ starred. subst (λ l. FindingSpells c l (comment_by (c ∷ rest) (after_comment 1 (behind rest)))) (sym (begins_so STAR rest starred)) (comment_by-spells c (c ∷ rest) (behind rest) (after_comment 1 (behind rest)) is refl)
+        | false ↦ λ not_starred. operator-spells c rest (subst (λ d. operator_part false d ≡ true) (sym is) slash_part)
+      ] refl
+    ] refl
 
 opening_by-spells : (c n : ℕ) (text rest : List ℕ) (inside : Option (List ℕ)) → (c ≡ QUOTE) ⊎ (c ≡ POUND) → FindingSpells c rest (opening_by n text inside)
 opening_by-spells c n text rest None is = is
@@ -185,6 +275,7 @@ quoted-spells c rest is =
             others = name ++ BACKQUOTE ∷ [];
             split = closed ∙ sym (append_assoc name (BACKQUOTE ∷ []) (behind end));
             spelled = (is, record { name = name; some = some; parts = All-cons (λ d. is_quoted_part d ≡ true) run.first run.others run.passes run.pass; closed = refl });
+            stops = tt;
           }
       | false ↦ λ has_not. tt
     ] refl
@@ -205,7 +296,7 @@ name-spells : (c : ℕ) (rest : List ℕ) → c ≡ POUND → starts is_name_sta
 name-spells c [] is begun = absurd (false≢true begun)
 name-spells c (d ∷ ds) is begun =
     let run = after_run-run is_word_part ds in
-    record { others = d ∷ run.run; split = ap (λ l. d ∷ l) run.split; spelled = (is, (begun, run.pass)) }
+    record { others = d ∷ run.run; split = ap (λ l. d ∷ l) run.split; spelled = (is, (begun, run.pass)); stops = after_run-stops is_word_part ds }
 
 pound-spells : (c : ℕ) (rest : List ℕ) → c ≡ POUND → FindingSpells c rest (pound (c ∷ rest) (pounds (c ∷ rest)) (after_run (λ d. d == POUND) (c ∷ rest)))
 unfolding pound
@@ -233,16 +324,18 @@ operator_kind c is = is
 
 by_front-spells : (kind : Front) (c : ℕ) (rest : List ℕ) → IsOfKind kind c → FindingSpells c rest (by_front kind (c ∷ rest) rest)
 by_front-spells front.Word c rest is = word-spells c rest is
-by_front-spells front.Blank c rest is = tt
+by_front-spells front.Blank c rest is =
+    let run = after_run-run is_blank rest in
+    record { others = run.run; split = run.split; piece = blanks (c ∷ run.run) (All-cons (λ d. is_blank d ≡ true) c run.run is run.pass) }
 by_front-spells front.Digit c rest is = number-spells c rest is
-by_front-spells front.Mark c rest is = alone Punct c rest (inl is, refl)
+by_front-spells front.Mark c rest is = alone Punct c rest (inl is, refl) tt
 by_front-spells front.Dot c rest is = dot-spells c rest (eqb-true c DOT is)
-by_front-spells front.Left c rest is = alone LeftBracket c rest (is, refl)
-by_front-spells front.Right c rest is = alone RightBracket c rest (is, refl)
+by_front-spells front.Left c rest is = alone LeftBracket c rest (is, refl) tt
+by_front-spells front.Right c rest is = alone RightBracket c rest (is, refl) tt
 by_front-spells front.Slash c rest is = slash-spells c rest (eqb-true c SLASH is)
 by_front-spells front.Quote c rest is = opening-spells c 0 rest rest (inl (eqb-true c QUOTE is))
 by_front-spells front.Pound c rest is = pound-spells c rest (eqb-true c POUND is)
-by_front-spells front.At c rest is = alone At c rest (eqb-true c AT is, refl)
+by_front-spells front.At c rest is = alone At c rest (eqb-true c AT is, refl) tt
 by_front-spells front.Backquote c rest is = quoted-spells c rest (eqb-true c BACKQUOTE is)
 by_front-spells front.Operator c rest is = operator-spells c rest (operator_kind c is)
 by_front-spells front.Other c rest is = tt
@@ -253,6 +346,7 @@ pub record TokenAt (class : Class) (text rest : List ℕ) : Type 0 where
   pub others : List ℕ
   pub split : text ≡ (first ∷ others) ++ rest
   pub spelled : SpellsWith class first others
+  pub stops : StopsBefore class rest
 
 pub token_at_front : (text : List ℕ) (class : Class) (rest : List ℕ) → at_front text ≡ Some (Token class, rest) → TokenAt class text rest
 unfolding at_front
@@ -260,7 +354,21 @@ token_at_front [] class rest is = cc
 token_at_front (c ∷ cs) class rest is =
     let finding : by_front (front_of c) (c ∷ cs) cs ≡ (Token class, rest) = cc in
     let spelled : FindingSpells c cs (Token class, rest) = subst (FindingSpells c cs) finding (by_front-spells (front_of c) c cs (front_of-kind c)) in
-    record { first = c; others = spelled.others; split = ap (λ l. c ∷ l) spelled.split; spelled = spelled.spelled }
+    record { first = c; others = spelled.others; split = ap (λ l. c ∷ l) spelled.split; spelled = spelled.spelled; stops = spelled.stops }
+
+-- the characters of trivia, and what stands behind them
+pub record TriviaAt (text rest : List ℕ) : Type 0 where
+  pub piece : List ℕ
+  pub split : text ≡ piece ++ rest
+  pub spelled : IsPiece piece
+
+pub trivia_at_front : (text rest : List ℕ) → at_front text ≡ Some (Trivia, rest) → TriviaAt text rest
+unfolding at_front
+trivia_at_front [] rest is = cc
+trivia_at_front (c ∷ cs) rest is =
+    let finding : by_front (front_of c) (c ∷ cs) cs ≡ (Trivia, rest) = cc in
+    let passed : FindingSpells c cs (Trivia, rest) = subst (FindingSpells c cs) finding (by_front-spells (front_of c) c cs (front_of-kind c)) in
+    record { piece = c ∷ passed.others; split = ap (λ l. c ∷ l) passed.split; spelled = passed.piece }
 
 -- the first character of a string
 pub record StringAt (text : List ℕ) : Type 0 where

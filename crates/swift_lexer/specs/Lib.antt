@@ -11,3 +11,4 @@ pub mod Texts
 pub mod Tiles
 pub mod Tokens
 pub mod Trees
+pub mod Trivia

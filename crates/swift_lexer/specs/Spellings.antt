@@ -1,5 +1,5 @@
 -- How the tokens of each class are spelled: this project's own grammar, after the lexical structure of Swift.
-use Rattle.std.specs.Prelude.{◌≡◌, ℕ, ◌<◌, ◌⊎◌, true, false, List, [], ◌∷◌, ◌++◌, length}
+use Rattle.std.specs.Prelude.{◌≡◌, ℕ, ◌<◌, ◌⊎◌, true, false, List, [], ◌∷◌, ◌++◌, length, ◌&&◌, not}
 use Rattle.std.specs.List.{AllPass}
 use Rattle.std.specs.Char.{is_ascii_digit}
 use Rattle.std.specs.Str.{encode_utf8_all}
@@ -7,6 +7,7 @@ use Rattle.swift_lexer.specs.declared.token.Class.{Class}
 use Rattle.swift_lexer.specs.declared.token.Class.TheVariants.{Word, Quoted, Number, Str, Pound, At, Punct, Oper, LeftBracket, RightBracket}
 use Rattle.swift_lexer.specs.declared.chars.TheConstants.{QUOTE, BACKQUOTE, POUND, AT, DOT}
 use Rattle.swift_lexer.specs.Bytes.{is_left_bracket, is_right_bracket}
+use Rattle.swift_lexer.specs.Texts.{starts, begins_comment}
 use Rattle.swift_lexer.specs.Chars.{is_mark, is_word_start, is_word_part, is_name_start, is_number_part, operator_part, is_quoted_part}
 
 -- a name between backquotes, behind the first one
@@ -58,3 +59,17 @@ pub record IsToken (class : Class) (bytes : List ℕ) : Type 0 where
   pub characters : List ℕ
   pub encoded : encode_utf8_all characters ≡ bytes
   pub spelled : Spells class characters
+
+-- what may not follow a token, since the token would go on with it: one row a class
+abbrev pub StopsBefore : Class → List ℕ → Type 0
+StopsBefore Word rest = starts is_word_part rest ≡ false
+StopsBefore Number rest = (starts is_number_part rest ≡ false)
+StopsBefore Pound rest = starts is_word_part rest ≡ false
+StopsBefore Oper rest = (starts (operator_part false) rest && not (begins_comment rest)) ≡ false
+StopsBefore _ rest = Unit {0}
+
+-- the bytes that follow a token of the class don't go on with it
+pub record Follows (class : Class) (bytes : List ℕ) : Type 0 where
+  pub characters : List ℕ
+  pub encoded : encode_utf8_all characters ≡ bytes
+  pub stops : StopsBefore class characters

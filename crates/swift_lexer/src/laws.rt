@@ -12,7 +12,7 @@ pub fn some_token_outcome()
     ensures { SomeTokenOutcome }
 {}
 
-/// Tokens and trivia, joined, are the text.
+/// Tokens and trivia, joined, are the text; each is spelled as it should, and no token could go on.
 pub fn tokens_tile()
     ensures { TokensOfATextTile }
 {}

@@ -1,5 +1,6 @@
 // Reads a Swift text into tokens, and tokens into bracket groups.
-// A caller may rely on `lex` and `group` answering the one outcome that `IsLexed` and `IsGrouped` give, want of memory aside.
+// A caller may rely on `lex` and `group` answering the one outcome that `IsLexed` and `IsGrouped` give, want of memory
+// aside, and on the laws of these definitions.
 // What the tokens and groups mean is left to the crates above.
 #![tactic(auto)]
 
