@@ -20,16 +20,19 @@ fn microseconds(rt: &HostRuntime, begun: Instant) -> Option<u128> {
     Some(begun.elapsed(rt).ok()?.as_micros())
 }
 
-// A reply whose text is so many lines.
-fn reply(alloc: Global, lines: usize) -> Option<PluginMessage>
-    ensures { IfSome result IsPluginWritable }
-{
+fn source(alloc: Global, lines: usize) -> Option<String> {
     let mut text = String::new(alloc);
     for _ in 0..lines {
         text.push_str(LINE).ok()?;
     }
+    Some(text)
+}
+
+fn reply(alloc: Global, text: &str) -> Option<PluginMessage>
+    ensures { IfSome result IsPluginWritable }
+{
     Some(PluginMessage::Result {
-        text: Some(Text::from_vec(text.into_bytes())),
+        text: Some(Text::from_bytes(alloc, text.as_bytes()).ok()?),
         diagnostics: Listed::from_vec(Vec::new(alloc)),
     })
 }
@@ -72,7 +75,7 @@ fn time_frames(rt: &HostRuntime, size: usize) -> Option<(u128, u128)> {
 
 fn time_messages(rt: &HostRuntime, size: usize) -> Option<(u128, u128)> {
     let alloc = rt.alloc();
-    let message = reply(alloc, size / LINE.len())?;
+    let message = reply(alloc, source(alloc, size / LINE.len())?.as_str())?;
     let begun = Instant::now(rt).ok()?;
     let payload = plugin_payload(alloc, &message).ok()?;
     let written = microseconds(rt, begun)?;
@@ -83,20 +86,14 @@ fn time_messages(rt: &HostRuntime, size: usize) -> Option<(u128, u128)> {
 
 // The length of a small reply's payload that went through a frame in pieces and is read again as it was.
 fn round_trip(alloc: Global) -> Option<usize> {
-    let payload = plugin_payload(alloc, &reply(alloc, 1)?).ok()?;
+    let payload = plugin_payload(alloc, &reply(alloc, LINE)?).ok()?;
     let frame = frame_of(alloc, &payload)?;
     let message = read_plugin(alloc, &fed(alloc, &frame, 1)?).ok()?;
-    match message {
-        PluginMessage::Result { .. } => Some(payload.len()),
-        _ => None,
-    }
-}
-
-fn timed(rt: &HostRuntime, what: &str, size: usize) -> Option<(u128, u128)> {
-    match what {
-        "frames" => time_frames(rt, size),
-        "messages" => time_messages(rt, size),
-        _ => None,
+    let again = plugin_payload(alloc, &message).ok()?;
+    if again == payload {
+        Some(payload.len())
+    } else {
+        None
     }
 }
 
@@ -107,12 +104,15 @@ fn main(rt: HostRuntime) -> io::Result<ExitCode> {
         println!(rt; "{length} bytes of payload, framed, and read again")?;
         return Ok(ExitCode::SUCCESS);
     };
-    let size = words.next().and_then(|word| word.parse::<usize>().ok());
-    match timed(&rt, &what, size.unwrap_or(0)) {
-        Some((first, second)) => {
-            println!(rt; "{first} {second}")?;
-            Ok(ExitCode::SUCCESS)
-        }
-        None => Ok(ExitCode::FAILURE),
-    }
+    let size = words.next().and_then(|word| word.parse().ok()).unwrap_or(0);
+    let times = match what.as_str() {
+        "frames" => time_frames(&rt, size),
+        "messages" => time_messages(&rt, size),
+        _ => None,
+    };
+    let Some((first, second)) = times else {
+        return Ok(ExitCode::FAILURE);
+    };
+    println!(rt; "{first} {second}")?;
+    Ok(ExitCode::SUCCESS)
 }
