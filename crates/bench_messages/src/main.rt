@@ -3,7 +3,7 @@
 //! Given nothing it takes one small reply through the same calls, and prints what comes out.
 #![tactic(auto)]
 
-ghost use Rattle.std.specs.Prelude.{◌≡◌, ◌<◌, Some, IfSome};
+ghost use Rattle.std.specs.Prelude.{◌<◌, IfSome};
 ghost use Rattle.plugin_messages.specs.Writable.{IsPluginWritable};
 
 use plugin_frames::{FrameReader, header};
