@@ -10,3 +10,4 @@ pub mod Writable
 pub mod RequestBytes
 pub mod ReplyBytes
 pub mod RoundTrip
+pub mod Spelling

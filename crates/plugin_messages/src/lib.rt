@@ -8,10 +8,11 @@ mod laws;
 mod message;
 mod reading;
 mod request;
+#[cfg(test)]
 mod tests;
 mod writing;
 
-pub use laws::written_messages_are_read_again;
+pub use laws::{words_are_spelled, written_messages_are_read_again};
 pub use message::{
     Cause, Diagnostic, HostMessage, Note, Outcome, PluginMessage, Reason, Refusal, SEVERITIES,
     Severity,

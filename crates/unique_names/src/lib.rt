@@ -12,5 +12,5 @@ mod tests;
 
 pub use key::{Key, equal_keys_are_one};
 pub use naming::{discriminator, discriminators_are_prefix_free, discriminators_are_utf8};
-pub use role::{ROLES, Role, texts_tell_roles};
+pub use role::{ROLES, Role, roles_are_spelled, texts_tell_roles};
 pub use step::KeyStep;

@@ -1,7 +1,7 @@
 // The roles in which a macro is asked, and their one table.
 ghost use Rattle.std.specs.Prelude.{◌≡◌};
 ghost use Rattle.unique_names.specs.Roles.{letter_of, text_of, among, role_of};
-ghost use Rattle.unique_names.specs.Laws.{TextsTellRoles};
+ghost use Rattle.unique_names.specs.Laws.{TextsTellRoles, RolesAreSpelled};
 
 /// What a macro is asked for at a place (SE-0382, SE-0389, SE-0397, SE-0402).
 #[derive(Clone, Copy, Debug, PartialEq, Eq, PartialOrd, Ord, Hash)]
@@ -62,4 +62,9 @@ fn find_role(rows: &[(Role, u8, &str)], text: &str) -> Option<Role>
 /// The text of a role is read as that role.
 pub fn texts_tell_roles()
     ensures { TextsTellRoles }
+{}
+
+/// The letter and the text of each role are those of the format.
+pub fn roles_are_spelled()
+    ensures { RolesAreSpelled }
 {}

@@ -214,25 +214,56 @@ fn brackets(alloc: Global, depth: u32) -> Result<String, AllocError> {
     Ok(text)
 }
 
-fn read_with(alloc: Global, value: &str) -> Result<Option<i64>, AllocError> {
-    Ok(version_of(alloc, with_unknown(alloc, value)?.as_bytes()))
+// A payload that has this in its midst is refused as no JSON, not for want of memory and not as a message.
+fn refused_with(rt: &impl Abort, alloc: Global, value: &str) -> Result<(), AllocError> {
+    let payload = with_unknown(alloc, value)?;
+    refused(rt, read_plugin(alloc, payload.as_bytes()), "NotJson");
+    Ok(())
 }
 
-fn read_with_brackets(alloc: Global, depth: u32) -> Result<Option<i64>, AllocError> {
-    read_with(alloc, brackets(alloc, depth)?.as_str())
+fn refused_in_brackets(rt: &impl Abort, alloc: Global, depth: u32) -> Result<(), AllocError> {
+    refused_with(rt, alloc, brackets(alloc, depth)?.as_str())
 }
 
-#[test]
-fn deep_payloads(rt: HostRuntime) -> Result<(), Fail> {
-    assert_eq!(rt; read_with_brackets(rt.alloc(), 125)?, Some(7));
-    assert_eq!(rt; read_with_brackets(rt.alloc(), 126)?, None);
-    assert_eq!(rt; read_with_brackets(rt.alloc(), 100_000)?, None);
+fn refused_alone(
+    rt: &impl Abort,
+    alloc: Global,
+    depth: u32,
+    expected: &str,
+) -> Result<(), AllocError> {
+    let payload = brackets(alloc, depth)?;
+    refused(rt, read_plugin(alloc, payload.as_bytes()), expected);
     Ok(())
 }
 
 #[test]
+fn deep_payloads(rt: HostRuntime) -> Result<(), Fail> {
+    let payload = with_unknown(rt.alloc(), brackets(rt.alloc(), 125)?.as_str())?;
+    assert_eq!(rt; version_of(rt.alloc(), payload.as_bytes()), Some(7));
+    refused_in_brackets(&rt, rt.alloc(), 126)?;
+    refused_in_brackets(&rt, rt.alloc(), 100_000)?;
+    refused_alone(&rt, rt.alloc(), 127, "NoCase")?;
+    refused_alone(&rt, rt.alloc(), 128, "NotJson")?;
+    Ok(())
+}
+
+// The piece has sixteen bytes, so what is refused is 16 MiB long.
+fn refused_at_length(
+    rt: &impl Abort,
+    alloc: Global,
+    head: &str,
+    piece: &str,
+) -> Result<(), AllocError> {
+    let mut value = String::from_str(alloc, head)?;
+    value.push_str(repeated(alloc, piece, 1_048_576)?.as_str())?;
+    refused_with(rt, alloc, value.as_str())
+}
+
+#[test]
 fn long_payloads(rt: HostRuntime) -> Result<(), Fail> {
-    let digits = repeated(rt.alloc(), "1234567890123456", 1_048_576)?;
-    assert_eq!(rt; read_with(rt.alloc(), digits.as_str())?, None);
+    refused_at_length(&rt, rt.alloc(), "", "1234567890123456")?;
+    refused_at_length(&rt, rt.alloc(), "", "[[[[[[[[[[[[[[[[")?;
+    refused_at_length(&rt, rt.alloc(), "\"", "sixteen letters.")?;
+    refused_at_length(&rt, rt.alloc(), "[", "\"\", \"\", \"\", \"\", ")?;
     Ok(())
 }
