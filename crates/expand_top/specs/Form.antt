@@ -60,8 +60,8 @@ abbrev pub begins_with_quote : List ℕ → Bool
 begins_with_quote [] = false
 begins_with_quote (first ∷ more) = first == 34
 
-abbrev pub is_plain : List ℕ → Bool
-is_plain inside = not (list_any (λ b. b == 34 || b == 92) inside)
+abbrev pub holds_escape : List ℕ → Bool
+holds_escape inside = list_any (λ b. b == 34 || b == 92) inside
 
 abbrev pub inside_of : Token → Span
 inside_of token = record { start = place_behind token.start; end = token.end - 1 }
@@ -69,7 +69,7 @@ inside_of token = record { start = place_behind token.start; end = token.end - 1
 -- what stands between the quotes of a string of one line without `\`
 abbrev pub quoted : List ℕ → Token → Option Span
 quoted text token =
-    if is_string token.class && begins_with_quote (bytes_of text token) && is_plain (text_at text (inside_of token))
+    if is_string token.class && begins_with_quote (bytes_of text token) && not (holds_escape (text_at text (inside_of token)))
     then Some (inside_of token)
     else None
 

@@ -4,7 +4,7 @@ ghost use Rattle.std.specs.List.{list_any};
 ghost use Rattle.std.specs.Str.{bytes_eq};
 ghost use Rattle.swift_lexer.specs.Trees.{tree_of};
 ghost use Rattle.expand_top.specs.Elements.{round_seen, round_at, leaf_at, spells_at};
-ghost use Rattle.expand_top.specs.Form.{is_word, is_string, is_number, is_pound, joins, is_builtin, any_marked, has_class_at, begins_with_quote, is_plain, inside_of, quoted, quoted_at, word_at, names_external, says_expression, begins_declaration, ends_declaration, is_declaration, declared, declaration_by, declaration_line, is_plain_token, is_plain_value, use_by, value_line, begins_binding, line_of};
+ghost use Rattle.expand_top.specs.Form.{is_word, is_string, is_number, is_pound, joins, is_builtin, any_marked, has_class_at, begins_with_quote, holds_escape, inside_of, quoted, quoted_at, word_at, names_external, says_expression, begins_declaration, ends_declaration, is_declaration, declared, declaration_by, declaration_line, is_plain_token, is_plain_value, use_by, value_line, begins_binding, line_of};
 
 use crate::elements::{
     Mark, Round, behind, front, leaf_at, part, round_at, row_is_marked, spells, spells_at,
@@ -104,10 +104,10 @@ fn begins_with_quote(bytes: &[u8]) -> bool
     }
 }
 
-fn is_plain(inside: &[u8]) -> bool
-    ensures { result ≡ is_plain inside.now }
+fn holds_escape(inside: &[u8]) -> bool
+    ensures { result ≡ holds_escape inside.now }
 {
-    !inside.iter().any(|b| *b == b'"' || *b == b'\\')
+    inside.iter().any(|b| *b == b'"' || *b == b'\\')
 }
 
 fn inside_of(token: Token) -> Span
@@ -126,7 +126,7 @@ fn quoted(text: &[u8], token: Token) -> Option<Span>
     let inside = inside_of(token);
     if is_string(token.class)
         && begins_with_quote(part(text, token.start, token.end))
-        && is_plain(part(text, inside.start, inside.end))
+        && !holds_escape(part(text, inside.start, inside.end))
     {
         return Some(inside);
     }

@@ -11,6 +11,7 @@ pub mod Reaching
 pub mod SomeOutcome
 pub mod Spelled
 pub mod Standing
+pub mod StringSpelled
 pub mod Tiling
 pub mod TokenBytes
 pub mod Trees

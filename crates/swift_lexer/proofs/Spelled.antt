@@ -1,5 +1,5 @@
 -- What stands at a front is spelled as its class says.
-use Rattle.std.proofs.Common.{◌≡◌, ◌⊎◌, inl, inr, ℕ, zero, suc, ◌<◌, Bool, true, false, List, [], ◌∷◌, ◌++◌, length, Some, None, if◌then◌else◌, ◌==◌, ◌&&◌, ◌||◌, not, sym, refl, ap, subst, arith, ◌∙◌, append_assoc}
+use Rattle.std.proofs.Common.{◌≡◌, inl, inr, ℕ, zero, suc, ◌<◌, Bool, true, false, List, [], ◌∷◌, ◌++◌, length, Some, None, if◌then◌else◌, ◌==◌, ◌&&◌, ◌||◌, not, sym, refl, ap, subst, arith, ◌∙◌, append_assoc}
 use Rattle.std.specs.List.{AllPass}
 use Rattle.std.specs.Char.{is_ascii_digit}
 use Rattle.std.specs.Prelude.{Option}
@@ -15,11 +15,12 @@ use Rattle.swift_lexer.specs.declared.found.Found.{Found}
 use Rattle.swift_lexer.specs.declared.found.Found.TheVariants.{Trivia, Token, Opens, Fails}
 use Rattle.swift_lexer.specs.declared.found.Quotes.{Quotes}
 use Rattle.swift_lexer.specs.Chars.{is_blank, is_word_part, is_name_start, is_number_part, is_operator, operator_part, is_quoted_part, front_of}
-use Rattle.swift_lexer.specs.Texts.{ends_comment, opens_comment, starts, begins, behind, after_run, begins_comment, after_operator, after_marks, after_comment, pounds}
+use Rattle.swift_lexer.specs.Texts.{ends_comment, opens_comment, starts, begins, behind, after_run, begins_comment, after_operator, after_marks, after_comment, times, pounds}
 use Rattle.swift_lexer.specs.Fronts.{Finding, after_fraction, opening_by, opening, comment_by, slash, quoted, pound, dot, by_front, at_front}
 use Rattle.swift_lexer.specs.Spellings.{SpellsWith, StopsBefore}
 use Rattle.swift_lexer.specs.Trivia.{in_line, IsPiece, blanks, line, nested}
 use Rattle.swift_lexer.proofs.Comments.{comment_goes_on}
+use Rattle.swift_lexer.proofs.StringSpelled.{start_of, marks_cut}
 use Rattle.swift_lexer.proofs.FrontKinds.{IsOfKind, front_of-kind}
 
 -- the characters that a run passes
@@ -128,7 +129,7 @@ record Passed (c : ℕ) (rest after : List ℕ) : Type 0 where
 abbrev FoundSpells : Found → ℕ → List ℕ → List ℕ → Type 0
 FoundSpells Trivia c rest after = Passed c rest after
 FoundSpells (Token class) c rest after = Spelled class c rest after
-FoundSpells (Opens quotes) c rest after = (c ≡ QUOTE) ⊎ (c ≡ POUND)
+FoundSpells (Opens quotes) c rest after = c ∷ rest ≡ start_of quotes after
 FoundSpells (Fails kind) c rest after = Unit {0}
 
 abbrev FindingSpells : ℕ → List ℕ → Finding → Type 0
@@ -252,13 +253,21 @@ slash-spells c rest is =
       ] refl
     ] refl
 
-opening_by-spells : (c n : ℕ) (text rest : List ℕ) (inside : Option (List ℕ)) → (c ≡ QUOTE) ⊎ (c ≡ POUND) → FindingSpells c rest (opening_by n text inside)
-opening_by-spells c n text rest None is = is
-opening_by-spells c n text rest (Some inside) is = is
+opening_by-spells : (c n : ℕ) (text rest : List ℕ) (inside : Option (List ℕ)) → c ∷ rest ≡ times n POUND (QUOTE ∷ text) → after_marks QUOTE 2 text ≡ inside → FindingSpells c rest (opening_by n text inside)
+opening_by-spells c n text rest None is found = is
+opening_by-spells c n text rest (Some inside) is found = is ∙ ap (λ l. times n POUND (QUOTE ∷ l)) (marks_cut QUOTE 2 text inside found)
 
-opening-spells : (c n : ℕ) (text rest : List ℕ) → (c ≡ QUOTE) ⊎ (c ≡ POUND) → FindingSpells c rest (opening n text)
+opening-spells : (c n : ℕ) (text rest : List ℕ) → c ∷ rest ≡ times n POUND (QUOTE ∷ text) → FindingSpells c rest (opening n text)
 unfolding opening
-opening-spells c n text rest is = opening_by-spells c n text rest (after_marks QUOTE 2 text) is
+opening-spells c n text rest is = opening_by-spells c n text rest (after_marks QUOTE 2 text) is refl
+
+pounds_cut : (text : List ℕ) → text ≡ times (pounds text) POUND (after_run (λ d. d == POUND) text)
+pounds_cut [] = refl
+pounds_cut (c ∷ cs) =
+    elim (c == POUND) as (λ b. (c == POUND) ≡ b → c ∷ cs ≡ times (if b then suc (pounds cs) else 0) POUND (if b then after_run (λ d. d == POUND) cs else c ∷ cs)) [
+      | true ↦ λ same. (λ i. eqb-true c POUND same i ∷ pounds_cut cs i)
+      | false ↦ λ differs. refl
+    ] refl
 
 quoted-spells : (c : ℕ) (rest : List ℕ) → c ≡ BACKQUOTE → FindingSpells c rest (quoted (c ∷ rest) rest)
 unfolding quoted
@@ -303,9 +312,9 @@ unfolding pound
 pound-spells c rest is =
     let after : List ℕ = after_run (λ d. d == POUND) (c ∷ rest) in
     let n : ℕ = pounds (c ∷ rest) in
-    elim (begins QUOTE after) as (λ b. FindingSpells c rest (if b then opening n (behind after) else (if begins SLASH after then (Fails ExtendedRegex, c ∷ rest) else (if n == 1 && starts is_name_start after then (Token Pound, after_run is_word_part (behind after)) else (Fails BadCharacter, c ∷ rest))))) [
-      | true ↦ opening-spells c n (behind after) rest (inr is)
-      | false ↦ elim (begins SLASH after) as (λ b. FindingSpells c rest (if b then (Fails ExtendedRegex, c ∷ rest) else (if n == 1 && starts is_name_start after then (Token Pound, after_run is_word_part (behind after)) else (Fails BadCharacter, c ∷ rest)))) [
+    elim (begins QUOTE after) as (λ b. begins QUOTE after ≡ b → FindingSpells c rest (if b then opening n (behind after) else (if begins SLASH after then (Fails ExtendedRegex, c ∷ rest) else (if n == 1 && starts is_name_start after then (Token Pound, after_run is_word_part (behind after)) else (Fails BadCharacter, c ∷ rest))))) [
+      | true ↦ λ quoted. opening-spells c n (behind after) rest (pounds_cut (c ∷ rest) ∙ ap (times n POUND) (begins_so QUOTE after quoted))
+      | false ↦ λ unquoted. elim (begins SLASH after) as (λ b. FindingSpells c rest (if b then (Fails ExtendedRegex, c ∷ rest) else (if n == 1 && starts is_name_start after then (Token Pound, after_run is_word_part (behind after)) else (Fails BadCharacter, c ∷ rest)))) [
         | true ↦ tt
         | false ↦ elim (n == 1 && starts is_name_start after) as (λ b. (n == 1 && starts is_name_start after) ≡ b → FindingSpells c rest (if b then (Token Pound, after_run is_word_part (behind after)) else (Fails BadCharacter, c ∷ rest))) [
           | true ↦ λ has.
@@ -316,7 +325,7 @@ pound-spells c rest is =
           | false ↦ λ has_not. tt
         ] refl
       ]
-    ]
+    ] refl
 
 operator_kind : (c : ℕ) → is_operator c ≡ true → operator_part false c ≡ true
 unfolding operator_part
@@ -333,7 +342,7 @@ by_front-spells front.Dot c rest is = dot-spells c rest (eqb-true c DOT is)
 by_front-spells front.Left c rest is = alone LeftBracket c rest (is, refl) tt
 by_front-spells front.Right c rest is = alone RightBracket c rest (is, refl) tt
 by_front-spells front.Slash c rest is = slash-spells c rest (eqb-true c SLASH is)
-by_front-spells front.Quote c rest is = opening-spells c 0 rest rest (inl (eqb-true c QUOTE is))
+by_front-spells front.Quote c rest is = opening-spells c 0 rest rest (ap (λ d. d ∷ rest) (eqb-true c QUOTE is))
 by_front-spells front.Pound c rest is = pound-spells c rest (eqb-true c POUND is)
 by_front-spells front.At c rest is = alone At c rest (eqb-true c AT is, refl) tt
 by_front-spells front.Backquote c rest is = quoted-spells c rest (eqb-true c BACKQUOTE is)
@@ -370,16 +379,9 @@ trivia_at_front (c ∷ cs) rest is =
     let passed : FindingSpells c cs (Trivia, rest) = subst (FindingSpells c cs) finding (by_front-spells (front_of c) c cs (front_of-kind c)) in
     record { piece = c ∷ passed.others; split = ap (λ l. c ∷ l) passed.split; spelled = passed.piece }
 
--- the first character of a string
-pub record StringAt (text : List ℕ) : Type 0 where
-  pub first : ℕ
-  pub others : List ℕ
-  pub split : text ≡ first ∷ others
-  pub spelled : (first ≡ QUOTE) ⊎ (first ≡ POUND)
-
-pub string_at_front : (text : List ℕ) (marks : Quotes) (inside : List ℕ) → at_front text ≡ Some (Opens marks, inside) → StringAt text
+pub string_at_front : (text : List ℕ) (marks : Quotes) (inside : List ℕ) → at_front text ≡ Some (Opens marks, inside) → text ≡ start_of marks inside
 unfolding at_front
 string_at_front [] marks inside is = cc
 string_at_front (c ∷ cs) marks inside is =
     let finding : by_front (front_of c) (c ∷ cs) cs ≡ (Opens marks, inside) = cc in
-    record { first = c; others = cs; split = refl; spelled = subst (FindingSpells c cs) finding (by_front-spells (front_of c) c cs (front_of-kind c)) }
+    subst (FindingSpells c cs) finding (by_front-spells (front_of c) c cs (front_of-kind c))

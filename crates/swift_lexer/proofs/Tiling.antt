@@ -2,7 +2,7 @@
 use Rattle.std.proofs.Common.{◌≡◌, ◌⊎◌, inl, inr, ℕ, ◌+◌, ◌-◌, List, [], ◌∷◌, ◌++◌, length, take, drop, slice_range, true, false, if◌then◌else◌, Some, None, Ok, Err, sym, refl, ap, subst, arith, ◌∙◌, append_assoc, append-nil}
 use Rattle.std.specs.List.{All}
 use Rattle.std.specs.Str.{chars, encode_utf8_all}
-use Rattle.std.proofs.lemmas.List.{length-append}
+use Rattle.std.proofs.lemmas.List.{length-append, append_cancel_right}
 use Rattle.std.proofs.lemmas.List.Elements.{All-nil, All-cons}
 use Rattle.std.proofs.lemmas.Str.{encodes-append, encodes-chars}
 use Rattle.std.proofs.Math.Seq.{drop-append_seam, take-append_seam}
@@ -23,6 +23,7 @@ use Rattle.swift_lexer.specs.Laws.{TokensOfATextTile}
 use Rattle.swift_lexer.proofs.Leaving.{Passes, Passes-then, at_front-passes}
 use Rattle.swift_lexer.proofs.Endings.{Closes-passes}
 use Rattle.swift_lexer.proofs.Spelled.{begins_so, token_at_front, string_at_front, trivia_at_front}
+use Rattle.swift_lexer.proofs.StringSpelled.{start_of, end_of, string_ends, whole_string}
 use Rattle.swift_lexer.proofs.TokenBytes.{token_length}
 
 -- what stands between a front and a rest
@@ -166,9 +167,9 @@ module _ (bytes text inside rest : List ℕ) (trivia : ℕ) (marks : Quotes) (is
 
   string_spelled : Spells Str (string_passes.first ∷ string_passes.leaves.front)
   string_spelled =
-      let front = string_at_front text marks inside is in
-      let same : front.first ≡ string_passes.first = cc (sym front.split ∙ string_passes.split) in
-      subst (λ c. Spells Str (c ∷ string_passes.leaves.front)) same front.spelled
+      let end = string_ends (length bytes) marks (place (length bytes) text) inside rest closes in
+      let whole : text ≡ start_of marks (end.inside ++ end_of marks []) ++ rest = string_at_front text marks inside is ∙ ap (start_of marks) end.split ∙ sym (whole_string marks end.inside rest) in
+      record { quotes = marks; inside = end.inside; split = append_cancel_right (string_passes.first ∷ string_passes.leaves.front) (start_of marks (end.inside ++ end_of marks [])) rest (sym string_split ∙ whole) }
 
 nothing_at_end : (text : List ℕ) → at_front text ≡ None → text ≡ []
 unfolding at_front

@@ -7,7 +7,9 @@ use Rattle.swift_lexer.specs.declared.token.Class.{Class}
 use Rattle.swift_lexer.specs.declared.token.Class.TheVariants.{Word, Quoted, Number, Str, Pound, At, Punct, Oper, LeftBracket, RightBracket}
 use Rattle.swift_lexer.specs.declared.chars.TheConstants.{QUOTE, BACKQUOTE, POUND, AT, DOT}
 use Rattle.swift_lexer.specs.Bytes.{is_left_bracket, is_right_bracket}
-use Rattle.swift_lexer.specs.Texts.{starts, begins_comment}
+use Rattle.swift_lexer.specs.declared.found.Quotes.{Quotes}
+use Rattle.swift_lexer.specs.Strings.{quotes_of}
+use Rattle.swift_lexer.specs.Texts.{starts, times, begins_comment}
 use Rattle.swift_lexer.specs.Chars.{is_mark, is_word_start, is_word_part, is_name_start, is_number_part, operator_part, is_quoted_part}
 
 -- a name between backquotes, behind the first one
@@ -37,12 +39,18 @@ abbrev pub IsDotted : List ℕ → Type 0
 IsDotted [] = ⊥
 IsDotted (c ∷ cs) = (c ≡ DOT) × AllPass (operator_part true) cs
 
+-- a string: pound signs, quotes, what stands inside, and as many quotes and pound signs again
+pub record IsString (characters : List ℕ) : Type 0 where
+  pub quotes : Quotes
+  pub inside : List ℕ
+  pub split : characters ≡ times quotes.pounds POUND (times (quotes_of quotes) QUOTE (inside ++ times (quotes_of quotes) QUOTE (times quotes.pounds POUND [])))
+
 -- by a token's first character and the others: one row a class
 abbrev pub SpellsWith : Class → ℕ → List ℕ → Type 0
 SpellsWith Word c cs = (is_word_start c ≡ true) × AllPass is_word_part cs
 SpellsWith Quoted c cs = (c ≡ BACKQUOTE) × IsQuotedName cs
 SpellsWith Number c cs = (is_ascii_digit c ≡ true) × (AllPass is_number_part cs ⊎ HasFraction cs)
-SpellsWith Str c cs = (c ≡ QUOTE) ⊎ (c ≡ POUND)
+SpellsWith Str c cs = IsString (c ∷ cs)
 SpellsWith Pound c cs = (c ≡ POUND) × IsName cs
 SpellsWith At c cs = (c ≡ AT) × (cs ≡ [])
 SpellsWith Punct c cs = ((is_mark c ≡ true) ⊎ (c ≡ DOT)) × (cs ≡ [])

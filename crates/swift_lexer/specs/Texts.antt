@@ -35,6 +35,11 @@ after_marks mark zero text = Some text
 after_marks mark (suc n) [] = None
 after_marks mark (suc n) (c ∷ cs) = if c == mark then after_marks mark n cs else None
 
+-- so many times the mark, and then the text
+abbrev pub times : ℕ → ℕ → List ℕ → List ℕ
+times zero mark text = text
+times (suc n) mark text = mark ∷ times n mark text
+
 -- how many pound signs begin the text
 abbrev pub pounds : List ℕ → ℕ
 pounds [] = 0
