@@ -1,3 +1,4 @@
+pub mod Characters
 pub mod Fronts
 pub mod OneGrouping
 pub mod OneOutcome
