@@ -9,7 +9,7 @@ use Rattle.std.proofs.lemmas.List.Elements.{All-head, All-tail, All-from_get_or}
 use Rattle.std.proofs.lemmas.Str.{IsUtf8-append, IsUtf8-nil, IsUtf8-encode, IsUtf8-from_ascii, encode_ascii, inside_one}
 use Rattle.std.proofs.lemmas.Str.Ascii.{IsAscii-nil, IsAscii-cons}
 use Rattle.std.proofs.Math.Utf8.{scalars, scalar, encode, encodes}
-use Rattle.sample_macros.specs.Samples.{escaped_byte, escaped, stringified}
+use Rattle.sample_macros.specs.Samples.{escaped_byte, escaped, stringified, misfit}
 
 -- bytes of other characters than ASCII ones are written as they are
 plain_byte : (byte : ℕ) → 128 ≤ byte → escaped_byte byte ≡ byte ∷ []
@@ -78,3 +78,7 @@ stringified_utf8 argument utf8 =
     (IsUtf8-append (codes ", \"") _ (IsUtf8-from_ascii (codes ", \"") (IsAscii-cons 44 (32 ∷ 34 ∷ []) (lit< tt) (IsAscii-cons 32 (34 ∷ []) (lit< tt) (IsAscii-cons 34 [] (lit< tt) IsAscii-nil))))
     (IsUtf8-append (escaped argument) _ (escaped_utf8 argument utf8)
     (IsUtf8-from_ascii (codes "\")") (IsAscii-cons 34 (41 ∷ []) (lit< tt) (IsAscii-cons 41 [] (lit< tt) IsAscii-nil))))))
+
+pub misfit_utf8 : IsUtf8 misfit
+unfolding misfit encode
+misfit_utf8 = (misfit, (refl, refl))

@@ -40,7 +40,7 @@ module _ (text : List ℕ) where
       last_boundary (end_of tree) elements (end_boundary tree (All-left (IsOfCharacters text) (tree_tokens tree) (forest_tokens elements) all))
       (All-right (IsOfCharacters text) (tree_tokens tree) (forest_tokens elements) all)
 
-  round_of_characters : (elements : Forest) → All (IsOfCharacters text) (forest_tokens elements) → (inner : Forest) → first_round text elements ≡ Some inner → All (IsOfCharacters text) (forest_tokens inner)
+  pub round_of_characters : (elements : Forest) → All (IsOfCharacters text) (forest_tokens elements) → (inner : Forest) → first_round text elements ≡ Some inner → All (IsOfCharacters text) (forest_tokens inner)
   unfolding first_round
   round_of_characters none all inner is = cc
   round_of_characters (cons (leaf token) elements) all inner is =
@@ -65,3 +65,10 @@ range_utf8 text from to utf8 begins ends =
           subst (λ n. IsUtf8 (take n (drop from text))) (sym none) IsUtf8-nil
       | inr above ↦ IsUtf8-between text from to utf8 above begins ends
     ]
+
+-- the text from the first of some elements to the last
+pub inner_utf8 : (text : List ℕ) → IsUtf8 text → (tree : Tree) (elements : Forest) → All (IsOfCharacters text) (forest_tokens (cons tree elements)) → IsUtf8 (slice_range text (start_of tree) (end_of_last (end_of tree) elements))
+inner_utf8 text utf8 tree elements all =
+    let first = All-left (IsOfCharacters text) (tree_tokens tree) (forest_tokens elements) all in
+    range_utf8 text (start_of tree) (end_of_last (end_of tree) elements) utf8 (start_boundary text tree first)
+    (last_boundary text (end_of tree) elements (end_boundary text tree first) (All-right (IsOfCharacters text) (tree_tokens tree) (forest_tokens elements) all))

@@ -1,18 +1,25 @@
 -- What a macro is given with its use. This project's own, after SE-0382.
-use Rattle.std.specs.Prelude.{◌≡◌, ℕ, ◌<◌, ◌≤◌, ◌==◌, if◌then◌else◌, Bool, Option, Some, None, option_and_then, Ok, Err, List, length, slice_index, slice_range}
+use Rattle.std.specs.Prelude.{◌≡◌, ℕ, ◌==◌, nat_le, if◌then◌else◌, Bool, Option, Some, None, option_and_then, Ok, Err, List, length, slice_index, slice_range}
+use Rattle.std.specs.Result.{result_ok}
 use Rattle.swift_lexer.specs.declared.token.Token.{Token}
-use Rattle.swift_lexer.specs.declared.token.LexFault.{LexFault}
-use Rattle.swift_lexer.specs.declared.element.GroupFault.{GroupFault}
-use Rattle.swift_lexer.specs.Tokens.{IsLexed}
-use Rattle.swift_lexer.specs.Groups.{IsGrouped}
+use Rattle.swift_lexer.specs.Tokens.{Outcome, IsLexed}
+use Rattle.swift_lexer.specs.Groups.{GroupOutcome, IsGrouped}
 use Rattle.swift_lexer.specs.Trees.{Tree, leaf, nest, Forest, none, cons}
 
--- The elements of a text, where it isn't too long and its tokens and brackets are accepted.
-pub data HasElements (text : List ℕ) : Option Forest → Type 0 where
-  too_long : 4194304 < length text → HasElements text None
-  not_lexed : (fault : LexFault) → length text ≤ 4194304 → IsLexed text (Err fault) → HasElements text None
-  not_grouped : (tokens : List Token) (fault : GroupFault) → length text ≤ 4194304 → IsLexed text (Ok tokens) → IsGrouped text tokens (Err fault) → HasElements text None
-  grouped : (tokens : List Token) (elements : Forest) → length text ≤ 4194304 → IsLexed text (Ok tokens) → IsGrouped text tokens (Ok elements) → HasElements text (Some elements)
+-- a text that isn't too long to be read
+abbrev pub readable : List ℕ → Option (List ℕ)
+readable text = if nat_le (length text) 4194304 then Some text else None
+
+-- the elements of a text by the outcome of its tokens: there are none where its tokens or brackets are refused
+abbrev pub HasGroups : List ℕ → Outcome → Option Forest → Type 0
+HasGroups text (Err fault) elements = elements ≡ None
+HasGroups text (Ok tokens) elements = (outcome : GroupOutcome) × IsGrouped text tokens outcome × (elements ≡ result_ok outcome)
+
+-- The elements of a text, where its tokens and brackets are accepted.
+pub record HasElements (text : List ℕ) (elements : Option Forest) : Type 0 where
+  pub tokens : Outcome
+  pub lexed : IsLexed text tokens
+  pub groups : HasGroups text tokens elements
 
 -- `(`
 abbrev pub is_round : List ℕ → Token → Bool
@@ -51,3 +58,8 @@ pub record HasArgument (source : List ℕ) (argument : Option (List ℕ)) : Type
   pub elements : Option Forest
   pub has : HasElements source elements
   pub is : argument ≡ option_and_then (argument_in source) elements
+
+-- the same of a source that may not be there
+abbrev pub HasArgumentWhereSome : Option (List ℕ) → Option (List ℕ) → Type 0
+HasArgumentWhereSome None argument = argument ≡ None
+HasArgumentWhereSome (Some source) argument = HasArgument source argument

@@ -1,19 +1,29 @@
 // The argument of a macro's use.
-ghost use Rattle.std.specs.Prelude.{◌≡◌, IfOk, option_map, slice_range};
+ghost use Rattle.std.specs.Prelude.{◌≡◌, ◌≤◌, IfOk, length, option_map, slice_range};
+ghost use Rattle.std.specs.Str.{IsUtf8};
+ghost use Rattle.plugin_messages.specs.Writable.{WhereSome};
 ghost use Rattle.swift_lexer.specs.Trees.{tree_of, forest_of, nest};
-ghost use Rattle.sample_macros.specs.Use.{HasElements, HasArgument, is_round, first_round, start_of, end_of, end_of_last, text_of, argument_in};
+ghost use Rattle.sample_macros.specs.Use.{readable, HasElements, HasArgumentWhereSome, is_round, first_round, start_of, end_of, end_of_last, text_of, argument_in};
 ghost use Rattle.sample_macros.specs.Shapes.{tree_seen, round_in};
 
 use std::alloc::{AllocError, Global};
-use swift_lexer::{Element, Refusal, Token, group, lex};
+use swift_lexer::{
+    Element, Refusal, Token, group, groups_hold_the_tokens, lex, tokens_are_of_characters,
+};
 
 /// How many bytes the source of a use may have.
 pub const LONGEST_SOURCE: usize = 4_194_304;
 
 /// The argument of the use with this source, where it has one.
 pub fn argument_of(alloc: Global, source: &[u8]) -> Result<Option<Vec<u8>>, AllocError>
-    ensures { IfOk result (λ argument. HasArgument source.now (option_map (λ v. v.items) argument)) }
+    ensures argument { IfOk result (λ argument. HasArgumentWhereSome (readable source.now) (option_map (λ v. v.items) argument)) }
+    ensures utf8 { IsUtf8 source.now → IfOk result (λ argument. WhereSome IsUtf8 (option_map (λ v. v.items) argument)) }
 {
+    groups_hold_the_tokens();
+    tokens_are_of_characters();
+    if source.len() > LONGEST_SOURCE {
+        return Ok(None);
+    }
     let Some(elements) = elements_of(alloc, source)? else {
         return Ok(None);
     };
@@ -23,13 +33,11 @@ pub fn argument_of(alloc: Global, source: &[u8]) -> Result<Option<Vec<u8>>, Allo
     }
 }
 
-/// The elements of a text, where it isn't too long and its tokens and brackets are accepted.
+/// The elements of a text, where its tokens and brackets are accepted.
 fn elements_of(alloc: Global, text: &[u8]) -> Result<Option<Vec<Element>>, AllocError>
+    requires { length text.now ≤ LONGEST_SOURCE }
     ensures { IfOk result (λ elements. HasElements text.now (option_map (λ v. forest_of v.items) elements)) }
 {
-    if text.len() > LONGEST_SOURCE {
-        return Ok(None);
-    }
     let tokens = match lex(alloc, text) {
         Ok(tokens) => tokens,
         Err(Refusal::Memory) => return Err(AllocError),
@@ -42,6 +50,7 @@ fn elements_of(alloc: Global, text: &[u8]) -> Result<Option<Vec<Element>>, Alloc
     }
 }
 
+// The text in the first round brackets, from the first token to the last.
 #[tactic(auto, unfolding(crate::specs::Use::argument_in))]
 fn argument_in<'a>(text: &'a [u8], elements: &[Element]) -> Option<&'a [u8]>
     ensures { option_map (λ s. s.now) result ≡ argument_in text.now (forest_of elements.now) }
