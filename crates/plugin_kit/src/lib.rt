@@ -9,4 +9,4 @@ mod registry;
 
 pub use asking::{Answers, Macro};
 pub use refusing::refusal;
-pub use registry::{Entry, Registry};
+pub use registry::{Entry, PROTOCOL_VERSION, Registry, answer_one};

@@ -1,10 +1,12 @@
 // Replies without a text, and with one error.
 ghost use Rattle.std.specs.Prelude.{◌≡◌, IfOk, [], ◌∷◌};
 ghost use Rattle.std.specs.Str.{IsUtf8};
-ghost use Rattle.plugin_messages.specs.Writable.{WhereSome, IsLocationWritable, IsDiagnosticWritable, ArePartsWritable, IsHostWritable, IsPluginWritable};
-ghost use Rattle.plugin_kit.specs.Refusing.{location_of, asked_location, error_at, refusal_of};
+ghost use Rattle.plugin_messages.specs.Writable.{WhereSome, IsLocationWritable, IsDiagnosticWritable, IsMacroWritable, ArePartsWritable, IsHostWritable, IsPluginWritable};
+ghost use Rattle.plugin_kit.specs.Refusing.{location_of, asked_location, error_at, refusal_of, no_macro_text};
 
-use plugin_messages::{Diagnostic, HostMessage, Location, Parts, PluginMessage, Severity};
+use plugin_messages::{
+    Diagnostic, HostMessage, Location, MacroRef, Parts, PluginMessage, Severity,
+};
 use std::alloc::{AllocError, Global};
 use swift_base::{Listed, Text};
 
@@ -87,4 +89,17 @@ pub fn refusal(
         text: None,
         diagnostics: Listed::from_vec(diagnostics),
     })
+}
+/// The text of the error where a plug-in has no such macro.
+#[tactic(auto, unfolding(crate::specs::Refusing::no_macro_text))]
+pub(crate) fn no_macro(alloc: Global, target: &MacroRef) -> Result<Vec<u8>, AllocError>
+    ensures text { IfOk result (λ text. text.items ≡ no_macro_text target.now) }
+    ensures utf8 { IsMacroWritable target.now → IfOk result (λ text. IsUtf8 text.items) }
+{
+    let mut text = Vec::from_slice(alloc, b"no macro ")?;
+    text.extend_from_slice(target.module.bytes())?;
+    text.extend_from_slice(b".")?;
+    text.extend_from_slice(target.type_name.bytes())?;
+    text.extend_from_slice(b" in this plug-in")?;
+    Ok(text)
 }
