@@ -8,3 +8,6 @@ mod literal;
 mod stringify;
 
 pub use stringify::StringifyMacro;
+
+#[cfg(test)]
+mod tests;

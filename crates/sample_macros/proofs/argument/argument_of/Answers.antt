@@ -12,5 +12,5 @@ returns-in-Some-argument_in-clause-utf8 c = λ utf8.
       elements = Some (forest_of c.in-Some.elements.items);
       has = rw c.in-Some.is at c.in_ok-elements.ensures;
       is = ap Some c.in_ok-from_slice-in-Some-argument_in.ensures.items ∙ c.in-Some-argument_in.ensures
-        ∙ ap (λ (row : List Element). argument_in c.args.source.now (forest_of row)) c.deref.ensures.value;
+          ∙ ap (λ (row : List Element). argument_in c.args.source.now (forest_of row)) c.deref.ensures.value;
     })

@@ -9,4 +9,5 @@ use Rattle.sample_macros.proofs.stringify.reply_with.Goals as goal
 pub returns-clause-writable : goal.returns-clause-writable
 returns-clause-writable c = λ utf8. (
   subst IsUtf8 (sym (c.from_vec.ensures ∙ c.in_ok-stringified.ensures)) (stringified_utf8 c.args.argument.now utf8),
-  subst (All IsDiagnosticWritable) (sym (c.from_vec-diagnostics.ensures ∙ c.new.ensures.items)) (All-nil IsDiagnosticWritable))
+  subst (All IsDiagnosticWritable) (sym (c.from_vec-diagnostics.ensures ∙ c.new.ensures.items)) (All-nil IsDiagnosticWritable),
+)
