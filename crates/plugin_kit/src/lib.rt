@@ -6,7 +6,11 @@
 mod asking;
 mod refusing;
 mod registry;
+mod served;
+mod serving;
 
 pub use asking::{Answers, Macro};
 pub use refusing::refusal;
 pub use registry::{Entry, PROTOCOL_VERSION, Registry, answer_one};
+pub use served::Served;
+pub use serving::{MOST_BYTES, serve};
