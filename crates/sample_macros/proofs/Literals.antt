@@ -1,5 +1,5 @@
 -- A text that is written as a literal stays UTF-8.
-use Rattle.std.proofs.Common.{◌≡◌, ℕ, ◌<◌, ◌≤◌, eqb, ◌||◌, ◌&&◌, ◌⊎◌, inl, inr, if◌then◌else◌, Bool, true, false, append-nil, List, [], ◌∷◌, ◌++◌, length, get_or, codes, sym, refl, ap, subst, arith, ◌∙◌, lit<}
+use Rattle.std.proofs.Common.{◌≡◌, ℕ, ◌<◌, ◌≤◌, eqb, ◌||◌, ◌&&◌, inl, inr, if◌then◌else◌, Bool, true, false, append-nil, List, [], ◌∷◌, ◌++◌, length, get_or, codes, sym, refl, ap, subst, arith, ◌∙◌, lit<}
 use Rattle.std.specs.List.{All, flat_map}
 use Rattle.std.specs.Str.{IsUtf8, IsAscii}
 use Rattle.std.proofs.lemmas.Bool.{cases_lt}

@@ -1,5 +1,5 @@
 -- The pieces of an accepted text that begin and end at tokens.
-use Rattle.std.proofs.Common.{◌≡◌, ℕ, ◌<◌, ◌≤◌, ◌-◌, ◌⊎◌, inl, inr, List, [], ◌∷◌, ◌++◌, length, take, drop, slice_range, Bool, true, false, Option, Some, None, sym, refl, ap, subst, arith, ◌∙◌}
+use Rattle.std.proofs.Common.{◌≡◌, ℕ, ◌-◌, inl, inr, List, [], ◌∷◌, ◌++◌, length, take, drop, slice_range, true, false, Some, sym, refl, subst, arith}
 use Rattle.std.specs.List.{All}
 use Rattle.std.specs.Str.{IsUtf8, IsCharBoundary}
 use Rattle.std.proofs.lemmas.Bool.{cases_lt}
@@ -9,7 +9,7 @@ use Rattle.std.proofs.Math.Seq.{drop-append_seam, take-append_seam}
 use Rattle.swift_lexer.specs.declared.token.Token.{Token}
 use Rattle.swift_lexer.specs.Trees.{Tree, leaf, nest, Forest, none, cons, tree_tokens, forest_tokens}
 use Rattle.swift_lexer.specs.Characters.{IsOfCharacters}
-use Rattle.sample_macros.specs.Use.{is_round, first_round, start_of, end_of, end_of_last, text_of}
+use Rattle.sample_macros.specs.Use.{is_round, first_round, start_of, end_of, end_of_last}
 
 All-left : {A : Type 0} (P : A → Type 0) (xs ys : List A) → All P (xs ++ ys) → All P xs
 All-left P xs ys all = subst (All P) (take-append_seam xs ys) (All-take P (length xs) (xs ++ ys) all)

@@ -8,7 +8,7 @@ use Rattle.swift_lexer.proofs.OneOutcome.{one_token_outcome}
 use Rattle.swift_lexer.proofs.OneGrouping.{one_group_outcome}
 use Rattle.plugin_messages.specs.declared.message.HostMessage.{HostMessage}
 use Rattle.plugin_messages.specs.declared.message.PluginMessage.{PluginMessage}
-use Rattle.sample_macros.specs.Use.{readable, HasGroups, HasElements, argument_in, HasArgument, HasArgumentWhereSome}
+use Rattle.sample_macros.specs.Use.{readable, HasGroups, HasElements, argument_in, HasArgumentWhereSome}
 use Rattle.sample_macros.specs.Samples.{expression_source, stringify_reply, IsStringifyReply}
 
 one_grouping : (text : List ℕ) (outcome : Outcome) (one other : Option Forest) → HasGroups text outcome one → HasGroups text outcome other → one ≡ other

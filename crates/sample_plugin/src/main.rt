@@ -3,6 +3,8 @@
 //! What the streams really carry is left to the operating system.
 #![tactic(auto)]
 
+ghost use Rattle.std.specs.Prelude.{◌≡◌, ◌∷◌, [], IfOk, codes};
+
 use plugin_kit::{Entry, Macro, Registry, serve};
 use real_links::{StdSink, StdSource};
 use sample_macros::StringifyMacro;
@@ -16,7 +18,9 @@ const NO_MEMORY: u8 = 5;
 
 // The macro under the names by which a declaration asks for it:
 // `= #externalMacro(module: "SampleMacros", type: "StringifyMacro")`.
-fn registry(alloc: Global, stringify: Box<dyn Macro + Send>) -> Result<Registry, AllocError> {
+fn registry(alloc: Global, stringify: Box<dyn Macro + Send>) -> Result<Registry, AllocError>
+    ensures { IfOk result (λ r. r.entries.items ≡ record { «module» = codes "SampleMacros"; type_name = codes "StringifyMacro"; body = stringify } ∷ []) }
+{
     let mut entries = Vec::new(alloc);
     entries.push(Entry {
         module: Text::from_bytes(alloc, b"SampleMacros")?,

@@ -1,4 +1,4 @@
-use Rattle.std.proofs.Common.{◌≡◌, Some, List, ap, sym, ◌∙◌}
+use Rattle.std.proofs.Common.{Some, List, ap, ◌∙◌}
 use Rattle.swift_lexer.specs.declared.element.Element.{Element}
 use Rattle.swift_lexer.specs.Trees.{forest_of}
 use Rattle.sample_macros.specs.Use.{argument_in}
