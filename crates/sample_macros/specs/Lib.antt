@@ -1,0 +1,4 @@
+pub mod OneReply
+pub mod Samples
+pub mod Shapes
+pub mod Use
