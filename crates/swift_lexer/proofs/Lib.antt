@@ -1,5 +1,6 @@
 pub mod Answering
 pub mod Begun
+pub mod Characters
 pub mod Closing
 pub mod Comments
 pub mod Endings

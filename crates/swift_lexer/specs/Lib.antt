@@ -1,5 +1,6 @@
 pub mod Answers
 pub mod Bytes
+pub mod Characters
 pub mod Chars
 pub mod Fronts
 pub mod Groups

@@ -1,5 +1,6 @@
 // Laws of the definitions: a call of each brings it in as a fact.
 
+ghost use Rattle.swift_lexer.specs.Characters.{AcceptedTextsAreUtf8, TokensAreOfCharacters};
 ghost use Rattle.swift_lexer.specs.Laws.{GroupsHoldTheTokens, OneGroupOutcome, OneTokenOutcome, SomeTokenOutcome, TokenBytes, TokensOfATextTile};
 
 /// A text is either accepted with one list of tokens or refused with one fault.
@@ -15,6 +16,16 @@ pub fn some_token_outcome()
 /// Tokens and trivia, joined, are the text; each is spelled as it should, and no token could go on.
 pub fn tokens_tile()
     ensures { TokensOfATextTile }
+{}
+
+/// No token of an accepted text begins or ends inside a character.
+pub fn tokens_are_of_characters()
+    ensures { TokensAreOfCharacters }
+{}
+
+/// An accepted text is UTF-8.
+pub fn accepted_texts_are_utf8()
+    ensures { AcceptedTextsAreUtf8 }
 {}
 
 /// A token has a byte, and a bracket is one byte.

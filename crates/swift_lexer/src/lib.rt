@@ -19,8 +19,8 @@ mod token;
 pub use element::{DEEPEST, Element, GroupFault, GroupKind};
 pub use grouping::group;
 pub use laws::{
-    groups_hold_the_tokens, one_group_outcome, one_token_outcome, some_token_outcome, token_bytes,
-    tokens_tile,
+    accepted_texts_are_utf8, groups_hold_the_tokens, one_group_outcome, one_token_outcome,
+    some_token_outcome, token_bytes, tokens_are_of_characters, tokens_tile,
 };
 pub use lexing::{LONGEST_TEXT, lex};
 pub use refusal::Refusal;
