@@ -1,18 +1,18 @@
 -- How the serving of a stream goes on, and what stands when it stops.
-use Rattle.std.proofs.Common.{◌≡◌, ℕ, ◌+◌, ◌<◌, ◌≤◌, Option, Some, None, List, [], ◌∷◌, ◌++◌, length, refl, sym, ap, subst, ◌∙◌, append_assoc, append-nil, arith, length-append}
+use Rattle.std.proofs.Common.{◌≡◌, ℕ, ◌+◌, ◌≤◌, Option, Some, None, List, [], ◌∷◌, ◌++◌, length, refl, sym, ap, subst, ◌∙◌, append_assoc, append-nil, arith, length-append}
 use Rattle.swift_base.specs.Told.{prepend, Rose}
-use Rattle.swift_base.specs.Outside.{SourceSeen, SinkSeen}
-use Rattle.plugin_frames.specs.Frames.{Tail, Rest, Length, IsFrames}
+use Rattle.swift_base.specs.Outside.{SourceSeen, SinkSeen, IsAtEnd}
+use Rattle.plugin_frames.specs.Frames.{Tail, Rest, IsFrames}
 use Rattle.plugin_frames.proofs.Readings.{each_list_is_frames, frames_go_on, no_frames}
 use Rattle.plugin_messages.specs.declared.message.HostMessage.{HostMessage}
 use Rattle.plugin_messages.specs.declared.message.PluginMessage.{PluginMessage}
 use Rattle.plugin_kit.specs.declared.served.Served.{Served}
 use Rattle.plugin_kit.specs.declared.served.Served.TheVariants as served
 use Rattle.plugin_kit.specs.declared.serving.Progress.{Progress}
-use Rattle.plugin_kit.specs.Replies.{reply_frames, Gains}
-use Rattle.plugin_kit.specs.Served.{most_bytes, piece_bytes, Course, HasCause, Serves}
-use Rattle.plugin_kit.specs.Answering.{AreAnswered, StopsAt, StopsAmong, held_bytes, IsBehind, IsFed, Reached, Reads, StopsReading}
-use Rattle.plugin_kit.proofs.Replying.{gains_nothing, gains_then, writes_nothing, answered_none, answered_then}
+use Rattle.plugin_kit.specs.Replies.{Gains}
+use Rattle.plugin_kit.specs.Served.{most_bytes, piece_bytes, HasCause, Serves}
+use Rattle.plugin_kit.specs.Answering.{AreAnswered, StopsAmong, held_bytes, IsBehind, IsFed, Reached, Reads, StopsReading}
+use Rattle.plugin_kit.proofs.Replying.{gains_nothing, gains_then, answered_none, answered_then}
 
 prepend-nothing : (left : Option (List ℕ)) → left ≡ prepend [] left
 prepend-nothing None = refl
@@ -113,6 +113,7 @@ stops_reading given first before after start last held progress (served.Ended re
       count = s.1.count ∙ r.count_requests;
       within = omega (arith, s.1.within, r.count_taken);
       ended = subst (λ n. Rose n after.ends) r.ends s.1.ended;
+      none_left = subst IsAtEnd (sym s.1.left) s.1.none_left;
     })
 stops_reading given first before after start last held progress (served.Cut requests) r s =
     serves_all given first after start last r.taken r.payloads (Rest r.rest) r.answered (served.Cut requests)
@@ -124,6 +125,7 @@ stops_reading given first before after start last held progress (served.Cut requ
         count = s.1.count ∙ r.count_requests;
         within = omega (arith, s.1.within, r.count_taken);
         ended = subst (λ n. Rose n after.ends) r.ends s.1.ended;
+        none_left = subst IsAtEnd (sym s.1.left) s.1.none_left;
       },
     )
 stops_reading given first before after start last held progress served.ReadFault r s =

@@ -1,7 +1,7 @@
 -- The steps of serving: a payload, the payloads of a piece, a piece. This project's own.
 use Rattle.std.specs.Prelude.{◌≡◌, ℕ, ◌+◌, ◌<◌, ◌≤◌, List, [], ◌∷◌, ◌++◌, length, Option, Some, None, Err}
 use Rattle.swift_base.specs.Told.{prepend, Rose}
-use Rattle.swift_base.specs.Outside.{SourceSeen, SinkSeen}
+use Rattle.swift_base.specs.Outside.{SourceSeen, SinkSeen, IsAtEnd}
 use Rattle.plugin_frames.specs.declared.refusal.FrameFault.{FrameFault}
 use Rattle.plugin_frames.specs.declared.refusal.FrameFault.TheVariants as fault
 use Rattle.plugin_frames.specs.declared.refusal.Refusal.{Refusal}
@@ -140,6 +140,7 @@ pub record Reads (before after : SourceSeen) (piece : List ℕ) : Type 0 where
 pub record MeetsEnd (before after : SourceSeen) (progress : Progress) (requests : ℕ) : Type 0 where
   pub left : after.left ≡ before.left
   pub ended : Rose before.ends after.ends
+  pub none_left : IsAtEnd before.left
   pub count : requests ≡ progress.requests
   pub within : progress.taken ≤ most_bytes
 

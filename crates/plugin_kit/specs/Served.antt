@@ -2,7 +2,7 @@
 -- This project's own, over swift-syntax's frames and messages.
 use Rattle.std.specs.Prelude.{◌≡◌, ℕ, ◌+◌, ◌<◌, ◌≤◌, List, [], ◌∷◌, ◌++◌, length, Err}
 use Rattle.swift_base.specs.Told.{prepend, Rose}
-use Rattle.swift_base.specs.Outside.{SourceSeen, SinkSeen}
+use Rattle.swift_base.specs.Outside.{SourceSeen, SinkSeen, IsAtEnd}
 use Rattle.plugin_frames.specs.Frames.{Tail, Rest, Length, IsFrames}
 use Rattle.plugin_messages.specs.declared.message.HostMessage.{HostMessage}
 use Rattle.plugin_messages.specs.declared.message.PluginMessage.{PluginMessage}
@@ -57,12 +57,13 @@ pub record IsFirstUnanswered (course : Course) (payload : List ℕ) : Type 0 whe
   pub later : List (List ℕ)
   pub first : course.unanswered ≡ payload ∷ later
 
--- the input came to its end behind this rest
+-- the input came to its end behind this rest, and has nothing left
 pub record EndsBehind (source source' : SourceSeen) (sink sink' : SinkSeen) (course : Course) (rest : List ℕ) (requests : ℕ) : Type 0 where
   pub answered : IsAnsweredUpTo sink sink' course rest
   pub count : requests ≡ length course.answered
   pub within : length course.taken ≤ most_bytes
   pub ended : Rose source.ends source'.ends
+  pub none_left : IsAtEnd source'.left
 
 pub record FailsToRead (source source' : SourceSeen) (sink sink' : SinkSeen) (course : Course) : Type 0 where
   pub rest : List ℕ
