@@ -1,5 +1,5 @@
 -- Payloads that are answered in order, and those of a piece.
-use Rattle.std.proofs.Common.{◌≡◌, ℕ, suc, ◌+◌, ◌<◌, ◌≤◌, Option, Some, None, List, [], ◌∷◌, ◌++◌, length, take, drop, get_or, refl, sym, ap, subst, ◌∙◌, append-nil, arith, length-append}
+use Rattle.std.proofs.Common.{◌≡◌, ℕ, suc, ◌+◌, ◌<◌, ◌≤◌, Some, List, [], ◌∷◌, ◌++◌, length, take, drop, get_or, sym, ap, subst, ◌∙◌, arith}
 use Rattle.std.proofs.lemmas.List.{take_more, take-append-drop, length-take-le, map_push, map-append}
 use Rattle.std.proofs.Math.Seq.{drop-cons}
 use Rattle.std.specs.declared.vec.Vec.{Vec}
@@ -11,11 +11,10 @@ use Rattle.plugin_frames.specs.declared.refusal.Refusal.{Refusal}
 use Rattle.plugin_frames.specs.declared.refusal.Refusal.TheVariants.{Memory, Fault}
 use Rattle.plugin_frames.specs.Frames.{Tail, Rest, Length, IsFrames}
 use Rattle.plugin_frames.specs.Cutting.{payloads_of}
-use Rattle.plugin_frames.specs.Feeding.{ReadsOn, Refuses}
+use Rattle.plugin_frames.specs.Feeding.{Refuses}
 use Rattle.plugin_messages.specs.declared.message.HostMessage.{HostMessage}
 use Rattle.plugin_messages.specs.declared.message.PluginMessage.{PluginMessage}
 use Rattle.plugin_kit.specs.declared.served.Served.{Served}
-use Rattle.plugin_kit.specs.Replies.{reply_frame, Gains}
 use Rattle.plugin_kit.specs.Answering.{IsFrameFor, IsAnswered, AreAnswered, FailsWithin, StopsAt, StopsAmong, held_bytes, IsFed, length_met}
 use Rattle.plugin_kit.proofs.Counts.{count_of, read_on_fits}
 use Rattle.plugin_kit.proofs.Replying.{answered_more}

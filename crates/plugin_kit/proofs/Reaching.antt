@@ -1,18 +1,18 @@
 -- How the serving of a stream goes on, and what stands when it stops.
-use Rattle.std.proofs.Common.{◌≡◌, ℕ, ◌+◌, ◌<◌, ◌≤◌, Option, Some, None, List, [], ◌∷◌, ◌++◌, length, refl, sym, ap, subst, ◌∙◌, append_assoc, append-nil, arith, length-append}
+use Rattle.std.proofs.Common.{◌≡◌, ℕ, ◌+◌, ◌≤◌, Option, Some, None, List, [], ◌∷◌, ◌++◌, length, refl, sym, ap, subst, ◌∙◌, append_assoc, append-nil, arith, length-append}
 use Rattle.swift_base.specs.Told.{prepend, Rose}
 use Rattle.swift_base.specs.Outside.{SourceSeen, SinkSeen}
-use Rattle.plugin_frames.specs.Frames.{Tail, Rest, Length, IsFrames}
+use Rattle.plugin_frames.specs.Frames.{Tail, Rest, IsFrames}
 use Rattle.plugin_frames.proofs.Readings.{each_list_is_frames, frames_go_on, no_frames}
 use Rattle.plugin_messages.specs.declared.message.HostMessage.{HostMessage}
 use Rattle.plugin_messages.specs.declared.message.PluginMessage.{PluginMessage}
 use Rattle.plugin_kit.specs.declared.served.Served.{Served}
 use Rattle.plugin_kit.specs.declared.served.Served.TheVariants as served
 use Rattle.plugin_kit.specs.declared.serving.Progress.{Progress}
-use Rattle.plugin_kit.specs.Replies.{reply_frames, Gains}
-use Rattle.plugin_kit.specs.Served.{most_bytes, piece_bytes, Course, HasCause, Serves}
-use Rattle.plugin_kit.specs.Answering.{AreAnswered, StopsAt, StopsAmong, held_bytes, IsBehind, IsFed, Reached, Reads, StopsReading}
-use Rattle.plugin_kit.proofs.Replying.{gains_nothing, gains_then, writes_nothing, answered_none, answered_then}
+use Rattle.plugin_kit.specs.Replies.{Gains}
+use Rattle.plugin_kit.specs.Served.{most_bytes, piece_bytes, HasCause, Serves}
+use Rattle.plugin_kit.specs.Answering.{AreAnswered, StopsAmong, held_bytes, IsBehind, IsFed, Reached, Reads, StopsReading}
+use Rattle.plugin_kit.proofs.Replying.{gains_nothing, gains_then, answered_none, answered_then}
 
 prepend-nothing : (left : Option (List ℕ)) → left ≡ prepend [] left
 prepend-nothing None = refl

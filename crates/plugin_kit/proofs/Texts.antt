@@ -1,5 +1,5 @@
 -- Texts of errors are UTF-8.
-use Rattle.std.proofs.Common.{◌++◌, codes, refl}
+use Rattle.std.proofs.Common.{codes, refl}
 use Rattle.std.specs.Str.{IsUtf8}
 use Rattle.std.proofs.lemmas.Str.{IsUtf8-append}
 use Rattle.plugin_messages.specs.declared.request.MacroRef.{MacroRef}

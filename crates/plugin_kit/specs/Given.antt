@@ -1,6 +1,6 @@
 -- The replies of a registry. Its entries are seen by their names and by the replies of their macros.
 -- This project's own; the messages are swift-syntax's.
-use Rattle.std.specs.Prelude.{◌≡◌, ◌&&◌, ℕ, Bool, true, false, List, [], find, Option, Some, None, pos}
+use Rattle.std.specs.Prelude.{◌≡◌, ◌&&◌, ℕ, Bool, false, List, [], find, Option, Some, None, pos}
 use Rattle.std.specs.Str.{bytes_eq}
 use Rattle.std.proofs.Common.{◌∙◌, sym}
 use Rattle.plugin_messages.specs.declared.request.MacroRef.{MacroRef}

@@ -1,6 +1,6 @@
 -- The replies to requests, and the bytes that a plug-in writes for them.
 -- This project's own, over swift-syntax's frames and messages.
-use Rattle.std.specs.Prelude.{◌≡◌, ℕ, ◌<◌, List, ◌++◌, length, take, map, Ok}
+use Rattle.std.specs.Prelude.{◌≡◌, ℕ, ◌<◌, List, length, take, map, Ok}
 use Rattle.std.specs.List.{AllZip}
 use Rattle.swift_base.specs.Told.{then_bytes}
 use Rattle.swift_base.specs.Outside.{SinkSeen}

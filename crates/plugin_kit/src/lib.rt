@@ -14,3 +14,6 @@ pub use refusing::refusal;
 pub use registry::{Entry, PROTOCOL_VERSION, Registry, answer_one};
 pub use served::Served;
 pub use serving::{MOST_BYTES, serve};
+
+#[cfg(test)]
+mod tests;
