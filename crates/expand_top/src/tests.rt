@@ -89,6 +89,16 @@ fn empty_file_prints_nothing(rt: HostRuntime) -> Result<(), Fail> {
     Ok(())
 }
 
+#[test]
+fn file_without_uses_stays(rt: HostRuntime) -> Result<(), Fail> {
+    let content =
+        "/* a /* b */ c */ let t = #\"a \"b\" \\(x)\"# // d\nlet m = \"\"\"\n  \"q\" \\(f(1))\n  \"\"\"\r\nlet é = (`x`)\n";
+    let none = Vec::new(rt.alloc());
+    let ran = run_on(rt, "expand r.swift", Some(content), None, none)?;
+    expect(&rt, &ran, 0, content, "");
+    Ok(())
+}
+
 // The expansion of `stringify` where the process gives both frames in such pieces.
 fn exchange(rt: HostRuntime, piece: u32) -> Result<Ran, AllocError> {
     let alloc = rt.alloc();
@@ -210,6 +220,12 @@ fn refusals_of_a_source(rt: HostRuntime) -> Result<(), Fail> {
         (
             "expand r.swift",
             "let r = (\n1)\n",
+            "r.swift:1:1: error: this form is not built yet\n",
+        ),
+        // a name that is kept for expansions
+        (
+            "expand r.swift",
+            "let r = ($sX1)\n",
             "r.swift:1:1: error: this form is not built yet\n",
         ),
         // no_script_left
