@@ -26,6 +26,6 @@ abbrev pub fault : ℕ → ParseKind → ParseFault
 fault at kind = record { at = at; kind = kind }
 
 -- what is read from a value, where there is one; the first fault counts
-abbrev pub then : {A B F : Type 0} → Result A F → (A → Result B F) → Result B F
-then (Ok value) next = next value
-then (Err found) next = Err found
+abbrev pub and_then : {A B F : Type 0} → Result A F → (A → Result B F) → Result B F
+and_then (Ok value) next = next value
+and_then (Err found) next = Err found

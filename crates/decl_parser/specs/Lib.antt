@@ -1,6 +1,14 @@
+pub mod Accessors
+pub mod Bindings
 pub mod Faults
-pub mod Words
+pub mod Found
+pub mod Heads
+pub mod Inside
+pub mod Inherits
 pub mod Marks
+pub mod Parts
+pub mod Places
 pub mod Sorts
 pub mod Spans
-pub mod Heads
+pub mod Uses
+pub mod Words

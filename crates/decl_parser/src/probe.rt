@@ -1,8 +1,9 @@
 ghost use Rattle.std.specs.Prelude.{◌≡◌};
-ghost use Rattle.decl_parser.specs.Heads.{in_list};
-ghost use Rattle.decl_parser.specs.Spans.{whole};
+ghost use Rattle.decl_parser.specs.Found.{found_in};
+ghost use Rattle.decl_parser.specs.Parts.{parts};
+ghost use Rattle.decl_parser.specs.Accessors.{lists_accessors};
 ghost use Rattle.decl_parser.specs.Marks.{mark_of};
 
 pub fn probe()
-    ensures { in_list ≡ in_list }
+    ensures { found_in ≡ found_in }
 {}
