@@ -5,6 +5,7 @@
 
 mod fault;
 mod mark;
+mod parse;
 mod place;
 mod probe;
 mod words;

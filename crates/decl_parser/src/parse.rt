@@ -1,0 +1,3 @@
+// A text into its outline.
+
+pub const LONGEST_SOURCE: usize = 4_194_304;
