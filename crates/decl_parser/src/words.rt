@@ -1,8 +1,12 @@
 // The words with a meaning in the grammar of declarations: one row a word.
 
 ghost use Rattle.std.specs.Prelude.{◌≡◌};
-ghost use Rattle.decl_parser.specs.Words.{keyword_of};
+ghost use Rattle.std.specs.Prelude.{find};
+ghost use Rattle.std.specs.Option.{option_map_or};
+ghost use Rattle.std.specs.Str.{bytes_eq};
+ghost use Rattle.decl_parser.specs.Words.{keyword_of, is_builtin, is_reserved, wants_name, is_modifier, is_joining, is_accessor, is_observer, is_operator_name, is_class_member, is_class, is_underscore, is_where, is_condition, is_async, is_throws, is_accessor_modifier};
 
+use swift_lexer::BUILTIN_WORDS;
 use swift_tree::Kind;
 
 /// What a word is for.
@@ -121,11 +125,114 @@ pub fn keyword_of(word: &[u8]) -> Keyword
     keyword_in(&WORDS, word)
 }
 
-fn keyword_in(rows: &[(&[u8], Keyword)], word: &[u8]) -> Keyword {
+fn keyword_in(rows: &[(&[u8], Keyword)], word: &[u8]) -> Keyword
+    ensures { result ≡ option_map_or (λ row. row.1) (find (λ row. bytes_eq row.0.now word.now) rows.now) Plain }
+{
     for row in rows {
         if row.0 == word {
             return row.1;
         }
     }
     Keyword::Plain
+}
+
+/// Whether the word behind a `#` is one of Swift's own.
+#[tactic(auto, unfolding(crate::specs::Words::is_builtin))]
+pub fn is_builtin(word: &[u8]) -> bool
+    ensures { result ≡ is_builtin word.now }
+{
+    BUILTIN_WORDS.iter().any(|builtin| *builtin == word)
+}
+
+/// Whether only macros make such a name.
+#[tactic(auto, unfolding(crate::specs::Words::is_reserved))]
+pub fn is_reserved(name: &[u8]) -> bool
+    ensures { result ≡ is_reserved name.now }
+{
+    name.starts_with(RESERVED)
+}
+
+/// Whether the kind's word begins a declaration only before a name.
+pub fn wants_name(kind: Kind) -> bool
+    ensures { result ≡ wants_name kind }
+{
+    matches!(kind, Kind::Actor | Kind::Macro)
+}
+
+pub fn is_modifier(keyword: Keyword) -> bool
+    ensures { result ≡ is_modifier keyword }
+{
+    matches!(keyword, Keyword::Modifier | Keyword::AccessorModifier)
+}
+
+pub fn is_joining(keyword: Keyword) -> bool
+    ensures { result ≡ is_joining keyword }
+{
+    matches!(keyword, Keyword::Joining | Keyword::Where)
+}
+
+pub fn is_accessor(keyword: Keyword) -> bool
+    ensures { result ≡ is_accessor keyword }
+{
+    matches!(keyword, Keyword::Accessor | Keyword::Observer | Keyword::Starter(Kind::Init))
+}
+
+pub fn is_observer(keyword: Keyword) -> bool
+    ensures { result ≡ is_observer keyword }
+{
+    matches!(keyword, Keyword::Observer)
+}
+
+pub fn is_operator_name(keyword: Keyword) -> bool
+    ensures { result ≡ is_operator_name keyword }
+{
+    matches!(keyword, Keyword::Starter(Kind::Operator | Kind::Func))
+}
+
+pub fn is_class_member(keyword: Keyword) -> bool
+    ensures { result ≡ is_class_member keyword }
+{
+    matches!(keyword, Keyword::Starter(Kind::Func | Kind::Var | Kind::Let | Kind::Subscript))
+}
+
+pub fn is_class(keyword: Keyword) -> bool
+    ensures { result ≡ is_class keyword }
+{
+    matches!(keyword, Keyword::Starter(Kind::Class))
+}
+
+pub fn is_underscore(keyword: Keyword) -> bool
+    ensures { result ≡ is_underscore keyword }
+{
+    matches!(keyword, Keyword::Underscore)
+}
+
+pub fn is_where(keyword: Keyword) -> bool
+    ensures { result ≡ is_where keyword }
+{
+    matches!(keyword, Keyword::Where)
+}
+
+pub fn is_condition(keyword: Keyword) -> bool
+    ensures { result ≡ is_condition keyword }
+{
+    matches!(keyword, Keyword::Condition)
+}
+
+pub fn is_async(keyword: Keyword) -> bool
+    ensures { result ≡ is_async keyword }
+{
+    matches!(keyword, Keyword::Async)
+}
+
+pub fn is_throws(keyword: Keyword) -> bool
+    ensures { result ≡ is_throws keyword }
+{
+    matches!(keyword, Keyword::Throws)
+}
+
+pub fn is_accessor_modifier(keyword: Keyword) -> bool
+    ensures { result ≡ is_accessor_modifier keyword }
+{
+    matches!(keyword, Keyword::AccessorModifier)
 }
