@@ -130,6 +130,7 @@ fn use_of(marks: &[Mark]) -> Option<MacroUse> {
 }
 
 /// The attribute that begins the elements, where one does.
+#[cycle(uses)]
 pub fn attr_of(alloc: Global, elements: Level) -> Result<Option<Attr>, AllocError> {
     let marks = elements.marks;
     let length = attribute_length(marks);
@@ -177,6 +178,7 @@ fn attribute_name(first: &Mark, last: Option<&Mark>) -> Span {
 }
 
 /// The uses in a group, at every depth.
+#[cycle(uses)]
 fn uses_inside(
     alloc: Global,
     text: &[u8],
@@ -193,6 +195,7 @@ fn uses_inside(
 }
 
 /// Finds the uses and attributes of a list, at every depth.
+#[cycle(uses)]
 pub fn find_inside(
     alloc: Global,
     text: &[u8],
@@ -207,6 +210,7 @@ pub fn find_inside(
 
 /// Finds the uses and local attributes in a range of a list, at every depth. Attributes that begin before `own` are
 /// the declaration's own.
+#[cycle(uses)]
 pub fn find(
     alloc: Global,
     list: Level,
@@ -235,6 +239,7 @@ pub fn find(
 }
 
 /// Finds what begins with the first element, and what stands inside it.
+#[cycle(uses)]
 fn find_element(
     alloc: Global,
     elements: Level,
