@@ -1,7 +1,6 @@
 -- What words are for in the grammar of declarations: this project's own, after The Swift Programming Language, Declarations and Statements.
-use Rattle.std.specs.Prelude.{ℕ, List, Bool, true, false, find, nat_eq}
+use Rattle.std.specs.Prelude.{ℕ, List, [], ◌∷◌, Bool, true, false, nat_eq, if◌then◌else◌}
 use Rattle.std.specs.List.{list_any, starts_with}
-use Rattle.std.specs.Option.{option_map_or}
 use Rattle.std.specs.Str.{bytes_eq}
 use Rattle.swift_lexer.specs.declared.strings.TheConstants.{BUILTIN_WORDS}
 use Rattle.swift_tree.specs.declared.item.Kind.{Kind}
@@ -10,9 +9,13 @@ use Rattle.decl_parser.specs.declared.words.Keyword.{Keyword}
 use Rattle.decl_parser.specs.declared.words.Keyword.TheVariants.{Plain, Modifier, AccessorModifier, Starter, Joining, Where, Condition, Accessor, Observer, Underscore, Async, Throws}
 use Rattle.decl_parser.specs.declared.words.TheConstants.{WORDS, RESERVED}
 
--- by the row of the word
+-- by the first row of the word, where there is one
+abbrev pub keyword_in : {R : Type 0} → (R → List ℕ) → (R → Keyword) → List R → List ℕ → Keyword
+keyword_in spelling keyword [] word = Plain
+keyword_in spelling keyword (row ∷ rows) word = if bytes_eq (spelling row) word then keyword row else keyword_in spelling keyword rows word
+
 unfoldable pub keyword_of : List ℕ → Keyword
-keyword_of word = option_map_or (λ row. row.1) (find (λ row. bytes_eq row.0.now word) WORDS) Plain
+keyword_of word = keyword_in (λ row. row.0.now) (λ row. row.1) WORDS word
 
 -- the word behind a `#` is one of Swift's own
 unfoldable pub is_builtin : List ℕ → Bool

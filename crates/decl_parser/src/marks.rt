@@ -1,6 +1,6 @@
 // An element by its own text.
 
-ghost use Rattle.std.specs.Prelude.{◌≡◌, count_by, slice_range, ◌==◌};
+ghost use Rattle.std.specs.Prelude.{◌≡◌, ◌<◌, ◌^◌, length, slice_index, slice_range};
 ghost use Rattle.swift_lexer.specs.Tiles.{bytes_of};
 ghost use Rattle.swift_lexer.specs.Trees.{tree_of};
 ghost use Rattle.decl_parser.specs.Marks.{mark_of, mark_between, leaf_sort, leaf_keyword, mark_sort, operator_sort, pound_sort, group_sort, is_first, angle_count, begins_angle, ends_angle, is_punctuation, joins, operator_joins};
@@ -11,7 +11,8 @@ use swift_lexer::{Class, Element, Token};
 
 /// The bytes from one place to another, as far as the text has them.
 pub fn part(text: &[u8], start: u32, end: u32) -> &[u8]
-    ensures { result.now ≡ slice_range text.now start end }
+    ensures bytes { result.now ≡ slice_range text.now start end }
+    ensures short { length result.now < 2 ^ 32 }
 {
     let end = text.len().min(end as usize);
     let start = end.min(start as usize);
@@ -53,6 +54,7 @@ fn mark_between(text: &[u8], token: Token, end: u32) -> Mark
 }
 
 fn leaf_sort(class: Class, bytes: &[u8]) -> Sort
+    requires { length bytes.now < 2 ^ 32 }
     ensures { result ≡ leaf_sort class bytes.now }
 {
     match class {
@@ -78,7 +80,9 @@ fn leaf_keyword(class: Class, bytes: &[u8]) -> Keyword
 }
 
 /// The byte at a place, 0 past the end.
-fn byte_at(bytes: &[u8], at: usize) -> u8 {
+fn byte_at(bytes: &[u8], at: usize) -> u8
+    ensures { result ≡ slice_index bytes.now at }
+{
     bytes.get(at).copied().unwrap_or(0)
 }
 
@@ -140,6 +144,7 @@ fn is_first(text: &[u8], token: Token) -> bool
 
 /// How often the byte stands in an operator other than `->`.
 fn angle_count(byte: u8, sort: Sort, bytes: &[u8]) -> u32
+    requires { length bytes.now < 2 ^ 32 }
     ensures { result ≡ angle_count byte sort bytes.now }
 {
     match sort {
@@ -151,13 +156,19 @@ fn angle_count(byte: u8, sort: Sort, bytes: &[u8]) -> u32
 fn begins_angle(sort: Sort, bytes: &[u8]) -> bool
     ensures { result ≡ begins_angle sort bytes.now }
 {
-    matches!(sort, Sort::Operator) && byte_at(bytes, 0) == LESS
+    match sort {
+        Sort::Operator => byte_at(bytes, 0) == LESS,
+        _ => false,
+    }
 }
 
 fn ends_angle(sort: Sort, bytes: &[u8]) -> bool
     ensures { result ≡ ends_angle sort bytes.now }
 {
-    matches!(sort, Sort::Operator) && bytes.len() > 1 && byte_at(bytes, bytes.len() - 1) == LESS
+    match sort {
+        Sort::Operator => bytes.len() > 1 && byte_at(bytes, bytes.len() - 1) == LESS,
+        _ => false,
+    }
 }
 
 fn is_punctuation(sort: Sort) -> bool

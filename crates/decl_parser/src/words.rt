@@ -2,9 +2,10 @@
 
 ghost use Rattle.std.specs.Prelude.{◌≡◌};
 ghost use Rattle.std.specs.Prelude.{find};
-ghost use Rattle.std.specs.Option.{option_map_or};
+ghost use Rattle.std.specs.List.{list_any};
+ghost use Rattle.std.specs.Option.{option_copied};
 ghost use Rattle.std.specs.Str.{bytes_eq};
-ghost use Rattle.decl_parser.specs.Words.{keyword_of, is_builtin, is_reserved, wants_name, is_modifier, is_joining, is_accessor, is_observer, is_operator_name, is_class_member, is_class, is_underscore, is_where, is_condition, is_async, is_throws, is_accessor_modifier};
+ghost use Rattle.decl_parser.specs.Words.{keyword_in, keyword_of, is_builtin, is_reserved, wants_name, is_modifier, is_joining, is_accessor, is_observer, is_operator_name, is_class_member, is_class, is_underscore, is_where, is_condition, is_async, is_throws, is_accessor_modifier};
 
 use swift_lexer::BUILTIN_WORDS;
 use swift_tree::Kind;
@@ -126,14 +127,18 @@ pub fn keyword_of(word: &[u8]) -> Keyword
 }
 
 fn keyword_in(rows: &[(&[u8], Keyword)], word: &[u8]) -> Keyword
-    ensures { result ≡ option_map_or (λ row. row.1) (find (λ row. bytes_eq row.0.now word.now) rows.now) Plain }
+    ensures { result ≡ keyword_in (λ row. row.0.now) (λ row. row.1) rows.now word.now }
 {
-    for row in rows {
-        if row.0 == word {
-            return row.1;
-        }
+    match row_of(rows, word) {
+        Some(row) => row.1,
+        None => Keyword::Plain,
     }
-    Keyword::Plain
+}
+
+fn row_of<'a>(rows: &'a [(&'a [u8], Keyword)], word: &[u8]) -> Option<&'a (&'a [u8], Keyword)>
+    ensures { option_copied result ≡ find (λ row. bytes_eq row.0.now word.now) rows.now }
+{
+    rows.iter().find(|row| row.0 == word)
 }
 
 /// Whether the word behind a `#` is one of Swift's own.
@@ -141,7 +146,13 @@ fn keyword_in(rows: &[(&[u8], Keyword)], word: &[u8]) -> Keyword
 pub fn is_builtin(word: &[u8]) -> bool
     ensures { result ≡ is_builtin word.now }
 {
-    BUILTIN_WORDS.iter().any(|builtin| *builtin == word)
+    is_one_of(&BUILTIN_WORDS, word)
+}
+
+fn is_one_of(words: &[&[u8]], word: &[u8]) -> bool
+    ensures { result ≡ list_any (λ one. bytes_eq one.now word.now) words.now }
+{
+    words.iter().any(|one| *one == word)
 }
 
 /// Whether only macros make such a name.
