@@ -8,7 +8,7 @@ use Rattle.decl_parser.specs.declared.words.Keyword.TheVariants.{Starter}
 use Rattle.decl_parser.specs.declared.mark.Mark.{Mark}
 use Rattle.decl_parser.specs.Words.{is_modifier, is_class, is_class_member, wants_name}
 use Rattle.decl_parser.specs.Marks.{joins}
-use Rattle.decl_parser.specs.Sorts.{is_at, is_name, is_dot, is_word, is_parentheses, is_pound}
+use Rattle.decl_parser.specs.Sorts.{is_arguments, is_at, is_name, is_dot, is_word, is_parentheses, is_pound}
 
 -- how many elements lead back to the angle depth at which so many `<` and `>` had passed; 0 where none do
 abbrev pub angles_from : ℕ → ℕ → ℕ → List Mark → ℕ
@@ -53,11 +53,19 @@ abbrev pub modifies : List Mark → Bool
 modifies [] = false
 modifies (mark ∷ marks) = is_modifier mark.keyword || (is_class mark.keyword && (modifies marks || first_is (λ next. is_class_member next.keyword) marks))
 
+-- the same, where it is known of the next
+abbrev pub before_member : Option Mark → Bool
+before_member None = false
+before_member (Some next) = next.modifies || is_class_member next.keyword
+
+abbrev pub modifies_before : Mark → Option Mark → Bool
+modifies_before mark next = is_modifier mark.keyword || (is_class mark.keyword && before_member next)
+
 -- the arguments of a modifier stand on its line
 abbrev pub modifier_length : List Mark → ℕ
 modifier_length [] = 0
 modifier_length (mark ∷ marks) =
-    if mark.modifies then (if first_is (λ next. is_parentheses next && not next.first) marks then 2 else 1) else 0
+    if mark.modifies then (if first_is is_arguments marks then 2 else 1) else 0
 
 -- the attribute or modifier that begins here; 0 where none does
 abbrev pub prefix_length : List Mark → ℕ

@@ -1,5 +1,5 @@
 -- Elements by what they are: this project's own words.
-use Rattle.std.specs.Prelude.{Bool, true, false}
+use Rattle.std.specs.Prelude.{Bool, true, false, ◌&&◌, not}
 use Rattle.decl_parser.specs.declared.mark.Mark.{Mark}
 use Rattle.decl_parser.specs.declared.mark.Sort.{Sort}
 use Rattle.decl_parser.specs.declared.mark.Sort.TheVariants as sort
@@ -122,3 +122,7 @@ is_braces mark = is_braces_sort mark.sort
 
 abbrev pub is_pattern : Mark → Bool
 is_pattern mark = is_pattern_sort mark.sort
+
+-- arguments stand on the line of what they belong to
+abbrev pub is_arguments : Mark → Bool
+is_arguments mark = is_parentheses mark && not mark.first

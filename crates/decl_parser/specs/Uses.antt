@@ -6,7 +6,7 @@ use Rattle.swift_tree.specs.declared.item.MacroUse.{MacroUse}
 use Rattle.swift_tree.specs.declared.item.Attr.{Attr}
 use Rattle.decl_parser.specs.declared.mark.Mark.{Mark}
 use Rattle.decl_parser.specs.Words.{is_condition}
-use Rattle.decl_parser.specs.Sorts.{is_word, is_use, is_colon, is_semicolon, is_dot, is_parentheses, is_braces}
+use Rattle.decl_parser.specs.Sorts.{is_arguments, is_word, is_use, is_colon, is_semicolon, is_dot, is_parentheses, is_braces}
 use Rattle.decl_parser.specs.Spans.{span_of, name_of, end_of}
 use Rattle.decl_parser.specs.Heads.{attribute_length, dots_length, first_angles, first_is}
 use Rattle.decl_parser.specs.Inside.{Seen, marks_of}
@@ -39,7 +39,7 @@ labels_length blocks (label ∷ colon ∷ closure ∷ marks) =
 -- the name of a use with its angle part and its arguments
 abbrev pub call_length : List Mark → ℕ
 call_length marks =
-    if first_is (λ next. is_parentheses next && not next.first) (drop (use_angles marks) marks) then suc (use_angles marks)
+    if first_is is_arguments (drop (use_angles marks) marks) then suc (use_angles marks)
     else use_angles marks
 
 abbrev pub closures_length : List ℕ → List Mark → List Mark → ℕ

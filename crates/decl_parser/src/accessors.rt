@@ -4,9 +4,9 @@ ghost use Rattle.std.specs.Prelude.{◌≡◌};
 ghost use Rattle.decl_parser.specs.Accessors.{accessor_length, effects_length, lists_accessors, observes_from, word_from};
 
 use crate::fault::{ParseFault, ParseKind};
-use crate::heads::{attribute_length, behind, first_is, prefix_length};
+use crate::heads::{attribute_length, behind, first_braces, first_parentheses, prefix_length};
 use crate::mark::Mark;
-use crate::sorts::{is_braces, is_parentheses};
+use crate::sorts::is_parentheses;
 use crate::words::{is_accessor, is_accessor_modifier, is_async, is_observer, is_throws};
 use std::alloc::{AllocError, Global};
 use swift_base::{Refusal, Span};
@@ -60,13 +60,13 @@ pub fn accessor_length(marks: &[Mark], braces_wanted: bool) -> usize
     if words == 0 {
         return 0;
     }
-    let named = if first_is(behind(marks, words), is_parentheses) {
+    let named = if first_parentheses(behind(marks, words)) {
         words + 1
     } else {
         words
     };
     let front = named + effects_length(behind(marks, named));
-    if first_is(behind(marks, front), is_braces) {
+    if first_braces(behind(marks, front)) {
         front + 1
     } else if braces_wanted {
         0

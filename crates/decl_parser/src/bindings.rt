@@ -5,7 +5,7 @@ ghost use Rattle.decl_parser.specs.Bindings.{begins_binding, binding_length};
 
 use crate::accessors::observes;
 use crate::fault::{ParseFault, ParseKind};
-use crate::heads::{behind, first_is};
+use crate::heads::{behind, first_braces, first_colon, first_equals, first_parentheses, first_pattern};
 use crate::inherits::{name_of, whole};
 use crate::level::{Level, inside, marks_in};
 use crate::mark::Mark;
@@ -65,8 +65,8 @@ pub fn bindings(
 fn begins_binding(marks: &[Mark]) -> bool
     ensures { result ≡ begins_binding marks.now }
 {
-    first_is(marks, is_pattern)
-        && (first_is(behind(marks, 1), is_colon) || first_is(behind(marks, 1), is_equals))
+    first_pattern(marks)
+        && (first_colon(behind(marks, 1)) || first_equals(behind(marks, 1)))
 }
 
 /// How many elements a binding has behind its pattern.
@@ -144,7 +144,7 @@ fn names_inside(
     for element in elements {
         let rest = behind(&marks, at);
         at += 1;
-        if first_is(rest, is_parentheses) {
+        if first_parentheses(rest) {
             names_inside(alloc, text, inside(element), names)?;
         } else if is_pattern_name(rest) {
             if let Some(mark) = rest.first() {
@@ -156,8 +156,12 @@ fn names_inside(
 }
 
 fn is_pattern_name(marks: &[Mark]) -> bool {
-    first_is(marks, |mark| is_name(mark) && !is_underscore(mark.keyword))
-        && !first_is(behind(marks, 1), is_colon)
+    match marks.first() {
+        Some(mark) => {
+            is_name(mark) && !is_underscore(mark.keyword) && !first_colon(behind(marks, 1))
+        }
+        None => false,
+    }
 }
 
 /// The place of the first element that passes.
@@ -222,7 +226,7 @@ fn with_initializer(
 /// Whether the last element, and not the only one, is the block that follows an initializer.
 fn has_observers(alloc: Global, init: Level) -> Result<bool, AllocError> {
     let count = init.marks.len();
-    if count < 2 || !first_is(behind(init.marks, count - 1), is_braces) {
+    if count < 2 || !first_braces(behind(init.marks, count - 1)) {
         return Ok(false);
     }
     let marks = marks_in(alloc, init.text, init.inside(count - 1))?;

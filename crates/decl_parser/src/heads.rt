@@ -1,10 +1,11 @@
 // With what a declaration begins: attributes, modifiers and a starter.
 
-ghost use Rattle.std.specs.Prelude.{◌≡◌, drop};
-ghost use Rattle.decl_parser.specs.Heads.{attribute_length, dots_length, first_angles, first_is, modifier_length, name_tail, prefix_length, starts};
+ghost use Rattle.std.specs.Prelude.{◌≡◌, ◌+◌, ◌<◌, ◌≤◌, ◌^◌, drop, length};
+ghost use Rattle.decl_parser.specs.Sorts.{is_arguments, is_braces, is_colon, is_equals, is_name, is_parentheses, is_pattern, is_use};
+ghost use Rattle.decl_parser.specs.Heads.{attribute_length, before_member, modifies_before, dots_length, first_angles, first_is, modifier_length, name_tail, prefix_length, starts};
 
 use crate::mark::Mark;
-use crate::sorts::{is_at, is_dot, is_name, is_parentheses, is_pound, is_word};
+use crate::sorts::{is_at, is_braces, is_colon, is_dot, is_equals, is_name, is_parentheses, is_pattern, is_pound, is_use, is_word};
 use crate::words::{Keyword, is_class, is_class_member, is_modifier, wants_name};
 
 /// What stands behind so many elements.
@@ -15,19 +16,84 @@ pub fn behind(marks: &[Mark], count: usize) -> &[Mark]
     &marks[count..]
 }
 
-/// Whether there is a first element, and it passes.
-pub fn first_is<F: Fn(&Mark) -> bool>(marks: &[Mark], test: F) -> bool
-    requires { F.IsAlwaysCallable test }
+// Whether there is a first element, and it is such a one.
+
+pub fn first_parentheses(marks: &[Mark]) -> bool
+    ensures { result ≡ first_is is_parentheses marks.now }
 {
     match marks.first() {
-        Some(mark) => test(mark),
+        Some(mark) => is_parentheses(mark),
+        None => false,
+    }
+}
+
+pub fn first_braces(marks: &[Mark]) -> bool
+    ensures { result ≡ first_is is_braces marks.now }
+{
+    match marks.first() {
+        Some(mark) => is_braces(mark),
+        None => false,
+    }
+}
+
+pub fn first_name(marks: &[Mark]) -> bool
+    ensures { result ≡ first_is is_name marks.now }
+{
+    match marks.first() {
+        Some(mark) => is_name(mark),
+        None => false,
+    }
+}
+
+pub fn first_colon(marks: &[Mark]) -> bool
+    ensures { result ≡ first_is is_colon marks.now }
+{
+    match marks.first() {
+        Some(mark) => is_colon(mark),
+        None => false,
+    }
+}
+
+pub fn first_equals(marks: &[Mark]) -> bool
+    ensures { result ≡ first_is is_equals marks.now }
+{
+    match marks.first() {
+        Some(mark) => is_equals(mark),
+        None => false,
+    }
+}
+
+pub fn first_pattern(marks: &[Mark]) -> bool
+    ensures { result ≡ first_is is_pattern marks.now }
+{
+    match marks.first() {
+        Some(mark) => is_pattern(mark),
+        None => false,
+    }
+}
+
+pub fn first_use(marks: &[Mark]) -> bool
+    ensures { result ≡ first_is is_use marks.now }
+{
+    match marks.first() {
+        Some(mark) => is_use(mark),
+        None => false,
+    }
+}
+
+pub fn first_arguments(marks: &[Mark]) -> bool
+    ensures { result ≡ first_is is_arguments marks.now }
+{
+    match marks.first() {
+        Some(mark) => is_parentheses(mark) && !mark.first,
         None => false,
     }
 }
 
 /// How many elements the dots and words are behind an attribute's first name.
 pub fn dots_length(marks: &[Mark]) -> usize
-    ensures { result ≡ dots_length marks.now }
+    ensures value { result ≡ dots_length marks.now }
+    ensures bound { result ≤ length marks.now }
 {
     let mut rest = marks;
     let mut count = 0;
@@ -43,7 +109,8 @@ pub fn dots_length(marks: &[Mark]) -> usize
 
 /// How many elements the angle part is that begins here.
 pub fn first_angles(marks: &[Mark]) -> usize
-    ensures { result ≡ first_angles marks.now }
+    ensures value { result ≡ first_angles marks.now }
+    ensures bound { result < 2 ^ 32 }
 {
     match marks.first() {
         Some(mark) => mark.angles as usize,
@@ -52,11 +119,12 @@ pub fn first_angles(marks: &[Mark]) -> usize
 }
 
 fn name_tail(marks: &[Mark]) -> usize
-    ensures { result ≡ name_tail marks.now }
+    ensures value { result ≡ name_tail marks.now }
+    ensures bound { result ≤ length marks.now + 2 ^ 32 }
 {
     let dots = dots_length(marks);
     let named = dots + first_angles(behind(marks, dots));
-    if first_is(behind(marks, named), is_parentheses) {
+    if first_parentheses(behind(marks, named)) {
         named + 1
     } else {
         named
@@ -66,7 +134,8 @@ fn name_tail(marks: &[Mark]) -> usize
 /// How many elements the attribute is that begins here; 0 where none does.
 #[tactic(auto, unfolding(crate::specs::Heads::attribute_length))]
 pub fn attribute_length(marks: &[Mark]) -> usize
-    ensures { result ≡ attribute_length marks.now }
+    ensures value { result ≡ attribute_length marks.now }
+    ensures bound { result ≤ length marks.now + 2 ^ 32 }
 {
     let (Some(at), Some(name)) = (marks.first(), marks.get(1)) else {
         return 0;
@@ -79,12 +148,19 @@ pub fn attribute_length(marks: &[Mark]) -> usize
 }
 
 /// Whether an element is a modifier, by the next.
-pub fn modifies(mark: &Mark, next: Option<&Mark>) -> bool {
-    let before_member = match next {
+pub fn modifies(mark: &Mark, next: Option<Mark>) -> bool
+    ensures { result ≡ modifies_before mark.now next }
+{
+    is_modifier(mark.keyword) || (is_class(mark.keyword) && before_member(next))
+}
+
+fn before_member(next: Option<Mark>) -> bool
+    ensures { result ≡ before_member next }
+{
+    match next {
         Some(next) => next.modifies || is_class_member(next.keyword),
         None => false,
-    };
-    is_modifier(mark.keyword) || (is_class(mark.keyword) && before_member)
+    }
 }
 
 fn modifier_length(marks: &[Mark]) -> usize
@@ -96,7 +172,7 @@ fn modifier_length(marks: &[Mark]) -> usize
     if !mark.modifies {
         return 0;
     }
-    if first_is(behind(marks, 1), |next| is_parentheses(next) && !next.first) {
+    if first_arguments(behind(marks, 1)) {
         2
     } else {
         1
@@ -126,7 +202,7 @@ pub fn starts(marks: &[Mark]) -> bool
         return true;
     }
     match mark.keyword {
-        Keyword::Starter(kind) => !wants_name(kind) || first_is(behind(marks, 1), is_name),
+        Keyword::Starter(kind) => !wants_name(kind) || first_name(behind(marks, 1)),
         _ => false,
     }
 }

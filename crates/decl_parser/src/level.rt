@@ -116,7 +116,7 @@ fn set_modifiers(marks: &mut [Mark]) {
     let mut at = marks.len();
     'elements: while at > 0 {
         at -= 1;
-        let is_modifier = modifies(&marks[at], marks.get(at + 1));
+        let is_modifier = modifies(&marks[at], marks.get(at + 1).copied());
         marks[at].modifies = is_modifier;
     }
 }

@@ -5,7 +5,7 @@ ghost use Rattle.std.specs.Prelude.{◌≡◌};
 use crate::accessors::lists_accessors;
 use crate::bindings::{Bound, bindings, place_of};
 use crate::fault::{ParseFault, ParseKind};
-use crate::heads::{behind, first_is};
+use crate::heads::behind;
 use crate::inherits::{extended_length, inherited, name_of, span_of, whole};
 use crate::items::items;
 use crate::level::{Level, marks_in};
@@ -157,8 +157,10 @@ fn function_name(starter: Mark, elements: Level) -> Result<Span, Refusal<ParseFa
 /// A last `<` directly before a word begins the generic parameters.
 fn operator_name(name: &Mark, rest: &[Mark]) -> Span {
     let mut span = span_of(name);
-    if name.ends_angle && first_is(rest, |next| is_word(next) && !next.spaced) {
-        span.end -= 1;
+    if let Some(next) = rest.first() {
+        if name.ends_angle && is_word(next) && !next.spaced {
+            span.end -= 1;
+        }
     }
     span
 }

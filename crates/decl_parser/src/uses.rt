@@ -3,11 +3,11 @@
 ghost use Rattle.std.specs.Prelude.{◌≡◌, reverse};
 ghost use Rattle.decl_parser.specs.Uses.{call_length, is_closure, labels_length, use_angles, use_length};
 
-use crate::heads::{attribute_length, behind, dots_length, first_angles, first_is};
+use crate::heads::{attribute_length, behind, dots_length, first_angles, first_arguments, first_use};
 use crate::inherits::{name_of, span_of};
 use crate::level::{Level, marks_in};
 use crate::mark::Mark;
-use crate::sorts::{is_braces, is_colon, is_dot, is_parentheses, is_semicolon, is_use, is_word};
+use crate::sorts::{is_braces, is_colon, is_dot, is_parentheses, is_semicolon, is_word};
 use crate::words::is_condition;
 use std::alloc::{AllocError, Global};
 use swift_base::{Listed, Span};
@@ -89,7 +89,7 @@ fn call_length(marks: &[Mark]) -> usize
     ensures { result ≡ call_length marks.now }
 {
     let angles = use_angles(marks);
-    if first_is(behind(marks, angles), |next| is_parentheses(next) && !next.first) {
+    if first_arguments(behind(marks, angles)) {
         angles + 1
     } else {
         angles
@@ -101,15 +101,16 @@ fn call_length(marks: &[Mark]) -> usize
 pub fn use_length(blocks: &[u32], before: &[Mark], marks: &[Mark]) -> usize
     ensures { result ≡ use_length blocks.now (reverse before.now) marks.now }
 {
-    if !first_is(marks, is_use) {
+    if !first_use(marks) {
         return 0;
     }
     let called = 1 + call_length(behind(marks, 1));
     let rest = behind(marks, called);
-    if first_is(rest, |closure| is_closure(blocks, closure)) && !in_condition(before) {
-        called + 1 + labels_length(blocks, behind(rest, 1))
-    } else {
-        called
+    match rest.first() {
+        Some(closure) if is_closure(blocks, closure) && !in_condition(before) => {
+            called + 1 + labels_length(blocks, behind(rest, 1))
+        }
+        _ => called,
     }
 }
 
