@@ -8,16 +8,16 @@ use Rattle.decl_parser.specs.Faults.{fault, and_then}
 use Rattle.decl_parser.specs.Words.{is_accessor, is_accessor_modifier, is_observer, is_async, is_throws}
 use Rattle.decl_parser.specs.Sorts.{is_parentheses, is_braces}
 use Rattle.decl_parser.specs.Spans.{span_of}
-use Rattle.decl_parser.specs.Heads.{attribute_length, prefix_length, first_is}
+use Rattle.decl_parser.specs.Heads.{by_length, attribute_length, prefix_length, first_is}
 
 -- how many elements lead from the attributes and modifiers of an accessor to its word; 0 where no word does
 abbrev pub word_from : ℕ → ℕ → List Mark → ℕ
 word_from count inside [] = 0
 word_from count (suc inside) (mark ∷ marks) = word_from (suc count) inside marks
 word_from count zero (mark ∷ marks) =
-    if not (attribute_length (mark ∷ marks) == 0) then word_from (suc count) (attribute_length (mark ∷ marks) - 1) marks
-    else (if is_accessor_modifier mark.keyword then word_from (suc count) 0 marks
-    else (if is_accessor mark.keyword then suc count else 0))
+    by_length (attribute_length (mark ∷ marks))
+      (if is_accessor_modifier mark.keyword then word_from (suc count) 0 marks else (if is_accessor mark.keyword then suc count else 0))
+      (λ more. word_from (suc count) more marks)
 
 -- `async` and `throws`, and the type that may follow `throws`
 abbrev pub effects_length : Bool → List Mark → ℕ
@@ -54,8 +54,8 @@ abbrev pub accessors_from : Bool → ℕ → List Mark → Result (List Span) Pa
 accessors_from braces_wanted inside [] = Ok []
 accessors_from braces_wanted (suc inside) (mark ∷ marks) = accessors_from braces_wanted inside marks
 accessors_from braces_wanted zero (mark ∷ marks) =
-    if accessor_length braces_wanted (mark ∷ marks) == 0 then Err (fault mark.start NotAnAccessor)
-    else and_then (accessors_from braces_wanted (accessor_length braces_wanted (mark ∷ marks) - 1) marks) (λ words. Ok (with_first (drop (word_from 0 0 (mark ∷ marks) - 1) (mark ∷ marks)) words))
+    by_length (accessor_length braces_wanted (mark ∷ marks)) (Err (fault mark.start NotAnAccessor)) (λ more.
+      and_then (accessors_from braces_wanted more marks) (λ words. Ok (with_first (drop (word_from 0 0 (mark ∷ marks) - 1) (mark ∷ marks)) words)))
 
 abbrev pub is_some_accessor : Result (List Span) ParseFault → Bool
 is_some_accessor (Ok (word ∷ words)) = true
@@ -70,5 +70,4 @@ abbrev pub observes_from : ℕ → List Mark → Bool
 observes_from inside [] = false
 observes_from (suc inside) (mark ∷ marks) = observes_from inside marks
 observes_from zero (mark ∷ marks) =
-    if prefix_length (mark ∷ marks) == 0 then is_observer mark.keyword
-    else observes_from (prefix_length (mark ∷ marks) - 1) marks
+    by_length (prefix_length (mark ∷ marks)) (is_observer mark.keyword) (λ more. observes_from more marks)

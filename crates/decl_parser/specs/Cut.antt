@@ -14,6 +14,7 @@ use Rattle.decl_parser.specs.Faults.{fault, and_then}
 use Rattle.decl_parser.specs.Places.{has_place}
 use Rattle.decl_parser.specs.Sorts.{is_pound, is_builtin_pound, is_semicolon}
 use Rattle.decl_parser.specs.Spans.{end_of}
+use Rattle.decl_parser.specs.Heads.{by_length}
 use Rattle.decl_parser.specs.Inside.{Seen, marks_of}
 use Rattle.decl_parser.specs.Uses.{use_length}
 use Rattle.decl_parser.specs.Found.{Blocks, found_from, own_attributes}
@@ -102,6 +103,6 @@ items_from place inside before [] = Ok none
 items_from place (suc inside) before (s ∷ seen) = items_from place inside (s.mark ∷ before) seen
 items_from place zero before (s ∷ seen) =
     if is_semicolon s.mark then items_from place 0 (s.mark ∷ before) seen
-    else (if s.mark.head == 0 then Err (fault s.mark.start NotADeclaration)
-    else and_then (item_at place before s.mark (s ∷ seen)) (λ first.
-      and_then (items_from place (item_length s.mark.head (marks_of (s ∷ seen)) - 1) (s.mark ∷ before) seen) (λ others. Ok (cons first others))))
+    else by_length s.mark.head (Err (fault s.mark.start NotADeclaration)) (λ more.
+      and_then (item_at place before s.mark (s ∷ seen)) (λ first.
+      and_then (items_from place (more + run_length false (drop more (marks_of seen))) (s.mark ∷ before) seen) (λ others. Ok (cons first others))))

@@ -4,7 +4,7 @@ use Rattle.std.specs.List.{list_any}
 use Rattle.swift_tree.specs.declared.item.MacroUse.{MacroUse}
 use Rattle.swift_tree.specs.declared.item.Attr.{Attr}
 use Rattle.decl_parser.specs.declared.mark.Mark.{Mark}
-use Rattle.decl_parser.specs.Heads.{attribute_length}
+use Rattle.decl_parser.specs.Heads.{by_length, attribute_length}
 use Rattle.decl_parser.specs.Inside.{Seen, marks_of}
 use Rattle.decl_parser.specs.Uses.{use_length, use_of, attr_of}
 
@@ -35,8 +35,7 @@ inside_found blocks s =
 -- an attribute that begins here
 abbrev pub attribute_found : Seen → List Seen → Found
 attribute_found s seen =
-    if attribute_length (marks_of (s ∷ seen)) == 0 then nothing
-    else record { uses = []; locals = attr_of s.mark (s ∷ seen) ∷ [] }
+    by_length (attribute_length (marks_of (s ∷ seen))) nothing (λ more. record { uses = []; locals = attr_of s.mark (s ∷ seen) ∷ [] })
 
 -- in the first `left` elements, past `inside` elements of a use or of an attribute of the declaration's own;
 -- such attributes stand in the first `own` elements. `before` are the elements before, the nearest first
@@ -47,10 +46,12 @@ found_from blocks own (suc left) (suc inside) before (s ∷ seen) = found_from b
 found_from blocks own (suc left) zero before (s ∷ seen) =
     let marks = marks_of (s ∷ seen) in
     let used = use_length blocks.all before (take (suc left) marks) in
-    let attribute = attribute_length marks in
-    if not (used == 0) then joined (record { uses = use_of used s.mark (marks_of seen) ∷ []; locals = [] }) (found_from blocks (own - 1) left (used - 1) (s.mark ∷ before) seen)
-    else (if nat_lt 0 own && not (attribute == 0) then found_from blocks (own - 1) left (attribute - 1) (s.mark ∷ before) seen
-    else joined (joined (attribute_found s seen) (inside_found blocks s)) (found_from blocks (own - 1) left 0 (s.mark ∷ before) seen))
+    let own_attribute = if nat_lt 0 own then attribute_length marks else 0 in
+    by_length used
+      (by_length own_attribute
+        (joined (joined (attribute_found s seen) (inside_found blocks s)) (found_from blocks (own - 1) left 0 (s.mark ∷ before) seen))
+        (λ more. found_from blocks (own - 1) left more (s.mark ∷ before) seen))
+      (λ more. joined (record { uses = use_of used s.mark (marks_of seen) ∷ []; locals = [] }) (found_from blocks (own - 1) left more (s.mark ∷ before) seen))
 
 -- in a whole list
 unfoldable pub found_in : List Seen → Found
@@ -62,5 +63,4 @@ own_attributes own inside [] = []
 own_attributes zero inside (s ∷ seen) = []
 own_attributes (suc own) (suc inside) (s ∷ seen) = own_attributes own inside seen
 own_attributes (suc own) zero (s ∷ seen) =
-    let attribute = attribute_length (marks_of (s ∷ seen)) in
-    if attribute == 0 then own_attributes own 0 seen else attr_of s.mark (s ∷ seen) ∷ own_attributes own (attribute - 1) seen
+    by_length (attribute_length (marks_of (s ∷ seen))) (own_attributes own 0 seen) (λ more. attr_of s.mark (s ∷ seen) ∷ own_attributes own more seen)

@@ -12,7 +12,7 @@ use Rattle.decl_parser.specs.declared.place.Place.TheVariants as place
 use Rattle.decl_parser.specs.Faults.{fault, and_then}
 use Rattle.decl_parser.specs.Sorts.{is_braces, is_semicolon}
 use Rattle.decl_parser.specs.Spans.{whole}
-use Rattle.decl_parser.specs.Heads.{attribute_length}
+use Rattle.decl_parser.specs.Heads.{by_length, attribute_length}
 use Rattle.decl_parser.specs.Inside.{Seen, marks_of}
 use Rattle.decl_parser.specs.Uses.{attr_of}
 use Rattle.decl_parser.specs.Found.{found_in}
@@ -35,8 +35,8 @@ abbrev pub attributes_from : ℕ → List Seen → Result (List Attr) ParseFault
 attributes_from inside [] = Ok []
 attributes_from (suc inside) (s ∷ seen) = attributes_from inside seen
 attributes_from zero (s ∷ seen) =
-    if attribute_length (marks_of (s ∷ seen)) == 0 then Err (fault s.mark.start NotAnAttribute)
-    else and_then (attributes_from (attribute_length (marks_of (s ∷ seen)) - 1) seen) (λ others. Ok (attr_of s.mark (s ∷ seen) ∷ others))
+    by_length (attribute_length (marks_of (s ∷ seen))) (Err (fault s.mark.start NotAnAttribute)) (λ more.
+      and_then (attributes_from more seen) (λ others. Ok (attr_of s.mark (s ∷ seen) ∷ others)))
 
 -- an expression has an element, and no `;` among its elements
 abbrev pub no_semicolon : List Mark → Result (List ℕ) ParseFault

@@ -10,6 +10,11 @@ use Rattle.decl_parser.specs.Words.{is_modifier, is_class, is_class_member, want
 use Rattle.decl_parser.specs.Marks.{joins}
 use Rattle.decl_parser.specs.Sorts.{is_arguments, is_at, is_name, is_dot, is_word, is_parentheses, is_pound}
 
+-- by the length of what begins with an element: nothing does, or so many elements of it follow the first
+abbrev pub by_length : {A : Type 0} → ℕ → A → (ℕ → A) → A
+by_length zero nothing begins = nothing
+by_length (suc more) nothing begins = begins more
+
 -- how many elements lead back to the angle depth at which so many `<` and `>` had passed; 0 where none do
 abbrev pub angles_from : ℕ → ℕ → ℕ → List Mark → ℕ
 angles_from count opened closed [] = 0
@@ -69,7 +74,7 @@ modifier_length (mark ∷ marks) =
 
 -- the attribute or modifier that begins here; 0 where none does
 abbrev pub prefix_length : List Mark → ℕ
-prefix_length marks = if attribute_length marks == 0 then modifier_length marks else attribute_length marks
+prefix_length marks = by_length (attribute_length marks) (modifier_length marks) suc
 
 -- by the first element's keyword
 abbrev pub keyword_starts : Keyword → List Mark → Bool
@@ -86,8 +91,7 @@ abbrev pub head_from : ℕ → ℕ → List Mark → ℕ
 head_from count inside [] = 0
 head_from count (suc inside) (mark ∷ marks) = head_from (suc count) inside marks
 head_from count zero (mark ∷ marks) =
-    if prefix_length (mark ∷ marks) == 0 then (if starts (mark ∷ marks) then suc count else 0)
-    else head_from (suc count) (prefix_length (mark ∷ marks) - 1) marks
+    by_length (prefix_length (mark ∷ marks)) (if starts (mark ∷ marks) then suc count else 0) (λ more. head_from (suc count) more marks)
 
 -- how many elements the head is that begins here; 0 where none does
 unfoldable pub head : List Mark → ℕ

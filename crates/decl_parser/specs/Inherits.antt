@@ -5,7 +5,7 @@ use Rattle.decl_parser.specs.declared.mark.Mark.{Mark}
 use Rattle.decl_parser.specs.Words.{is_where}
 use Rattle.decl_parser.specs.Sorts.{is_colon, is_comma, is_braces}
 use Rattle.decl_parser.specs.Spans.{whole}
-use Rattle.decl_parser.specs.Heads.{attribute_length}
+use Rattle.decl_parser.specs.Heads.{by_length, attribute_length}
 
 -- how many elements the extended type is: up to a colon or `where` at angle depth 0, or braces
 abbrev pub extended_length : ℕ → ℕ → List Mark → ℕ
@@ -19,7 +19,7 @@ abbrev pub named_type : ℕ → List Mark → Option Span
 named_type inside [] = None
 named_type (suc inside) (mark ∷ marks) = named_type inside marks
 named_type zero (mark ∷ marks) =
-    if attribute_length (mark ∷ marks) == 0 then whole (mark ∷ marks) else named_type (attribute_length (mark ∷ marks) - 1) marks
+    by_length (attribute_length (mark ∷ marks)) (whole (mark ∷ marks)) (λ more. named_type more marks)
 
 abbrev pub with_piece : Option Span → List Span → List Span
 with_piece None pieces = pieces

@@ -1,6 +1,6 @@
 // Accessors.
 
-ghost use Rattle.std.specs.Prelude.{◌≡◌};
+ghost use Rattle.std.specs.Prelude.{◌≡◌, false};
 ghost use Rattle.decl_parser.specs.Accessors.{accessor_length, effects_length, lists_accessors, observes_from, word_from};
 
 use crate::fault::{ParseFault, ParseKind};

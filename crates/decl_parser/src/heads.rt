@@ -181,7 +181,8 @@ fn modifier_length(marks: &[Mark]) -> usize
 
 /// How many elements the attribute or the modifier is that begins here; 0 where none does.
 pub fn prefix_length(marks: &[Mark]) -> usize
-    ensures { result ≡ prefix_length marks.now }
+    ensures value { result ≡ prefix_length marks.now }
+    ensures bound { result ≤ length marks.now + 2 ^ 32 }
 {
     let attribute = attribute_length(marks);
     if attribute == 0 {
