@@ -29,3 +29,19 @@ observes_step (mark ∷ marks) (suc prefix) is some = observes_past mark marks p
 
 pub observes_further : (at prefix : ℕ) (marks : List Mark) → prefix ≡ prefix_length (drop at marks) → 0 < prefix → observes_from 0 (drop (at + prefix) marks) ≡ observes_from 0 (drop at marks)
 observes_further at prefix marks is some = ap (observes_from 0) (sym (drop-drop prefix at marks)) ∙ observes_step (drop at marks) prefix is some
+
+-- past an attribute, the word of an accessor is looked for behind it
+word_past : (count : ℕ) (mark : Mark) (marks : List Mark) (attribute length : ℕ) (otherwise : ℕ) → suc attribute ≡ length → word_from (count + suc attribute) 0 (drop attribute marks) ≡ by_length length otherwise (λ more. word_from (suc count) more marks)
+word_past count mark marks attribute length otherwise is =
+    let at : count + suc attribute ≡ suc count + attribute = omega arith in
+    subst (λ n. word_from (count + suc attribute) 0 (drop attribute marks) ≡ by_length n otherwise (λ more. word_from (suc count) more marks)) is (ap (λ n. word_from n 0 (drop attribute marks)) at ∙ sym (word_from_skip (suc count) attribute marks))
+
+word_step : (count : ℕ) (marks : List Mark) (attribute : ℕ) → attribute ≡ attribute_length marks → 0 < attribute → word_from (count + attribute) 0 (drop attribute marks) ≡ word_from count 0 marks
+word_step count [] zero is some = refl
+word_step count [] (suc attribute) is some = refl
+word_step count (mark ∷ marks) zero is some = absurd (omega (arith, some))
+word_step count (mark ∷ marks) (suc attribute) is some =
+    word_past count mark marks attribute (attribute_length (mark ∷ marks)) (if is_accessor_modifier mark.keyword then word_from (suc count) 0 marks else (if is_accessor mark.keyword then suc count else 0)) is
+
+pub word_further : (count attribute : ℕ) (marks : List Mark) → attribute ≡ attribute_length (drop count marks) → 0 < attribute → word_from (count + attribute) 0 (drop (count + attribute) marks) ≡ word_from count 0 (drop count marks)
+word_further count attribute marks is some = ap (word_from (count + attribute) 0) (sym (drop-drop attribute count marks)) ∙ word_step count (drop count marks) attribute is some

@@ -1,7 +1,7 @@
 // Accessors.
 
-ghost use Rattle.std.specs.Prelude.{◌≡◌, false};
-ghost use Rattle.decl_parser.specs.Accessors.{accessor_length, effects_length, lists_accessors, observes_from, word_from};
+ghost use Rattle.std.specs.Prelude.{◌≡◌, ◌+◌, ◌≤◌, false, length};
+ghost use Rattle.decl_parser.specs.Accessors.{accessor_front, accessor_length, effects_length, one_if, lists_accessors, observes_from, word_from};
 
 use crate::fault::{ParseFault, ParseKind};
 use crate::heads::{attribute_length, behind, first_braces, first_parentheses, prefix_length};
@@ -13,7 +13,8 @@ use swift_base::{Refusal, Span};
 
 /// How many elements lead from an accessor's attributes and modifiers to its word; 0 where no word does.
 fn word_length(marks: &[Mark]) -> usize
-    ensures { result ≡ word_from 0 0 marks.now }
+    ensures value { result ≡ word_from 0 0 marks.now }
+    ensures bound { result ≤ length marks.now }
 {
     let mut count = 0;
     'prefix: while let Some(mark) = marks.get(count) {
@@ -31,7 +32,8 @@ fn word_length(marks: &[Mark]) -> usize
 
 /// `async` and `throws`, and the type that may follow `throws`.
 fn effects_length(marks: &[Mark]) -> usize
-    ensures { result ≡ effects_length false marks.now }
+    ensures value { result ≡ effects_length false marks.now }
+    ensures bound { result ≤ length marks.now }
 {
     let mut throwing = false;
     let mut count = 0;
@@ -60,12 +62,7 @@ pub fn accessor_length(marks: &[Mark], braces_wanted: bool) -> usize
     if words == 0 {
         return 0;
     }
-    let named = if first_parentheses(behind(marks, words)) {
-        words + 1
-    } else {
-        words
-    };
-    let front = named + effects_length(behind(marks, named));
+    let front = accessor_front(words, marks);
     if first_braces(behind(marks, front)) {
         front + 1
     } else if braces_wanted {
@@ -73,6 +70,23 @@ pub fn accessor_length(marks: &[Mark], braces_wanted: bool) -> usize
     } else {
         front
     }
+}
+
+/// How many elements an accessor is without its braces; its word is the last of so many.
+fn accessor_front(words: usize, marks: &[Mark]) -> usize
+    requires { words ≤ length marks.now }
+    ensures value { result ≡ accessor_front words marks.now }
+    ensures bound { result ≤ length marks.now + length marks.now + 1 }
+{
+    let named = words + one_if(first_parentheses(behind(marks, words)));
+    named + effects_length(behind(marks, named))
+}
+
+fn one_if(b: bool) -> usize
+    ensures value { result ≡ one_if b }
+    ensures bound { result ≤ 1 }
+{
+    if b { 1 } else { 0 }
 }
 
 /// The word of the accessor that begins here.
