@@ -1,6 +1,6 @@
 // The bindings of `var` and `let`.
 
-ghost use Rattle.std.specs.Prelude.{◌≡◌};
+ghost use Rattle.std.specs.Prelude.{◌≡◌, false};
 ghost use Rattle.decl_parser.specs.Bindings.{begins_binding, binding_length};
 
 use crate::accessors::observes;
@@ -74,8 +74,8 @@ fn binding_length(marks: &[Mark]) -> usize
     ensures { result ≡ binding_length false 0 0 marks.now }
 {
     let mut initialized = false;
-    let mut opened = 0usize;
-    let mut closed = 0usize;
+    let mut opened = 0u128;
+    let mut closed = 0u128;
     let mut count = 0;
     'elements: for mark in marks {
         if is_comma(mark) {
@@ -89,8 +89,8 @@ fn binding_length(marks: &[Mark]) -> usize
             }
         }
         initialized = initialized || is_equals(mark);
-        opened += mark.opens as usize;
-        closed += mark.closes as usize;
+        opened += mark.opens as u128;
+        closed += mark.closes as u128;
         count += 1;
     }
     count

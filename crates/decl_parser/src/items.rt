@@ -1,6 +1,6 @@
 // A list of elements cut into declarations.
 
-ghost use Rattle.std.specs.Prelude.{◌≡◌};
+ghost use Rattle.std.specs.Prelude.{◌≡◌, false};
 ghost use Rattle.decl_parser.specs.Cut.{item_length, kind_of, run_length};
 
 use crate::fault::{ParseFault, ParseKind};

@@ -1,7 +1,7 @@
 // Macro uses and attributes.
 
-ghost use Rattle.std.specs.Prelude.{◌≡◌, reverse};
-ghost use Rattle.decl_parser.specs.Uses.{call_length, is_closure, labels_length, use_angles, use_length};
+ghost use Rattle.std.specs.Prelude.{◌≡◌, ◌+◌, ◌≤◌, length, reverse};
+ghost use Rattle.decl_parser.specs.Uses.{call_length, in_condition, is_closure, labels_length, use_angles, use_length};
 
 use crate::heads::{attribute_length, behind, dots_length, first_angles, first_arguments, first_use};
 use crate::inherits::{name_of, span_of};
@@ -31,7 +31,9 @@ pub struct Found {
 
 /// Whether, going back over the elements, the first of braces, a `;` and a word that begins a condition is such a
 /// word.
-fn in_condition(before: &[Mark]) -> bool {
+fn in_condition(before: &[Mark]) -> bool
+    ensures { result ≡ in_condition (reverse before.now) }
+{
     let mut at = before.len();
     'elements: while at > 0 {
         at -= 1;
@@ -53,7 +55,8 @@ fn is_closure(blocks: &[u32], mark: &Mark) -> bool
 }
 
 fn use_angles(marks: &[Mark]) -> usize
-    ensures { result ≡ use_angles marks.now }
+    ensures value { result ≡ use_angles marks.now }
+    ensures bound { result ≤ length marks.now }
 {
     match marks.first() {
         Some(mark)
@@ -67,7 +70,8 @@ fn use_angles(marks: &[Mark]) -> usize
 
 /// Further closures: a word, a colon and braces on the same line.
 fn labels_length(blocks: &[u32], marks: &[Mark]) -> usize
-    ensures { result ≡ labels_length blocks.now marks.now }
+    ensures value { result ≡ labels_length blocks.now marks.now }
+    ensures bound { result ≤ length marks.now }
 {
     let mut rest = marks;
     let mut count = 0;
@@ -86,7 +90,8 @@ fn labels_length(blocks: &[u32], marks: &[Mark]) -> usize
 
 /// How many elements the angle part and the arguments of a use are.
 fn call_length(marks: &[Mark]) -> usize
-    ensures { result ≡ call_length marks.now }
+    ensures value { result ≡ call_length marks.now }
+    ensures bound { result ≤ length marks.now + 1 }
 {
     let angles = use_angles(marks);
     if first_arguments(behind(marks, angles)) {
