@@ -10,13 +10,14 @@ use Rattle.swift_tree.specs.Outlines.{BlockSeen, no_block, block, none}
 use Rattle.decl_parser.specs.declared.fault.ParseFault.{ParseFault}
 use Rattle.decl_parser.specs.declared.fault.ParseKind.TheVariants.{MissingName, MissingBlock, NotADeclaration}
 use Rattle.decl_parser.specs.declared.mark.Mark.{Mark}
+use Rattle.decl_parser.specs.declared.inherits.Stop.TheVariants as stop
 use Rattle.decl_parser.specs.Faults.{fault, and_then}
 use Rattle.decl_parser.specs.Sorts.{is_name, is_word, is_operator, is_comma, is_braces}
 use Rattle.decl_parser.specs.Spans.{span_of, name_of, whole}
 use Rattle.decl_parser.specs.Heads.{first_is}
 use Rattle.decl_parser.specs.Inside.{Seen, marks_of}
 use Rattle.decl_parser.specs.Bindings.{Bound, before, from, bindings_from}
-use Rattle.decl_parser.specs.Inherits.{inherited, extended_length}
+use Rattle.decl_parser.specs.Inherits.{inherited, length_before}
 
 -- what a declaration has behind its starter
 pub record Parts : Type 0 where
@@ -112,13 +113,13 @@ abbrev pub named : Mark → List Seen → Result Parts ParseFault
 named starter behind = and_then (first_name starter behind) (λ name. Ok (names_only (name ∷ [])))
 
 abbrev pub of_type : Mark → List Seen → Result Parts ParseFault
-of_type starter behind = and_then (first_name starter behind) (λ name. type_parts starter (name ∷ []) (inherited 0 0 (marks_of (before is_braces (drop 1 behind)))) None (from is_braces (drop 1 behind)))
+of_type starter behind = and_then (first_name starter behind) (λ name. type_parts starter (name ∷ []) (inherited (marks_of (before is_braces (drop 1 behind)))) None (from is_braces (drop 1 behind)))
 
 abbrev pub of_extension : Mark → List Seen → Result Parts ParseFault
 of_extension starter behind =
-    let extended = take (extended_length 0 0 (marks_of behind)) (marks_of behind) in
+    let extended = take (length_before stop.Extended 0 0 (marks_of behind)) (marks_of behind) in
     if length extended == 0 then Err (fault starter.start MissingName)
-    else type_parts starter [] (inherited 0 0 (marks_of (before is_braces behind))) (whole extended) (from is_braces behind)
+    else type_parts starter [] (inherited (marks_of (before is_braces behind))) (whole extended) (from is_braces behind)
 
 abbrev pub of_function : Mark → List Seen → Result Parts ParseFault
 of_function starter behind = and_then (function_name starter behind) (λ name. function_parts false name (from is_braces (drop 1 behind)))

@@ -1,10 +1,10 @@
 // Extended types and inheritance clauses.
 
-ghost use Rattle.std.specs.Prelude.{◌≡◌};
-ghost use Rattle.decl_parser.specs.Inherits.{extended_length, before_comma, before_where};
+ghost use Rattle.std.specs.Prelude.{◌≡◌, ◌≤◌, IfOk, length};
+ghost use Rattle.decl_parser.specs.Inherits.{inherited, length_before, named_type, pieces, stops};
 ghost use Rattle.decl_parser.specs.Spans.{name_of, span_of, whole};
 
-use crate::heads::{attribute_length, behind};
+use crate::heads::{attribute_length, behind, first_colon};
 use crate::mark::Mark;
 use crate::sorts::{is_braces, is_colon, is_comma, is_quoted};
 use crate::words::is_where;
@@ -46,35 +46,54 @@ pub fn whole(marks: &[Mark]) -> Option<Span>
     })
 }
 
-/// How many elements stand before the first that passes; the test is given whether the angle depth is 0 there.
-fn length_before<F: Fn(&Mark, bool) -> bool>(marks: &[Mark], test: F) -> usize
-    requires { F.IsAlwaysCallable test }
+/// At what a part of a declaration's head ends.
+#[derive(Clone, Copy, PartialEq, Eq, Debug)]
+pub enum Stop {
+    /// The braces of the block, and a colon or `where` at angle depth 0.
+    Extended,
+    /// A colon or `where` at angle depth 0.
+    Clause,
+    /// `where` at angle depth 0.
+    Where,
+    /// A comma at angle depth 0.
+    Comma,
+}
+
+/// Whether the element is such an end; `outside` where the angle depth is 0.
+fn stops(stop: Stop, mark: &Mark, outside: bool) -> bool
+    ensures { result ≡ stops stop mark.now outside }
 {
-    let mut opened = 0usize;
-    let mut closed = 0usize;
+    match stop {
+        Stop::Extended => is_braces(mark) || (outside && (is_colon(mark) || is_where(mark.keyword))),
+        Stop::Clause => outside && (is_colon(mark) || is_where(mark.keyword)),
+        Stop::Where => outside && is_where(mark.keyword),
+        Stop::Comma => outside && is_comma(mark),
+    }
+}
+
+/// How many elements stand before the end.
+pub fn length_before(stop: Stop, marks: &[Mark]) -> usize
+    ensures value { result ≡ length_before stop 0 0 marks.now }
+    ensures bound { result ≤ length marks.now }
+{
+    let mut opened = 0u128;
+    let mut closed = 0u128;
     let mut count = 0;
     'elements: for mark in marks {
-        if test(mark, opened == closed) {
+        if stops(stop, mark, opened == closed) {
             return count;
         }
-        opened += mark.opens as usize;
-        closed += mark.closes as usize;
+        opened += mark.opens as u128;
+        closed += mark.closes as u128;
         count += 1;
     }
     count
 }
 
-/// How many elements an extended type is.
-pub fn extended_length(marks: &[Mark]) -> usize
-    ensures { result ≡ extended_length 0 0 marks.now }
-{
-    length_before(marks, |mark, outside| {
-        is_braces(mark) || (outside && (is_colon(mark) || is_where(mark.keyword)))
-    })
-}
-
 /// What a piece names past its attributes.
-fn named_type(marks: &[Mark]) -> Option<Span> {
+fn named_type(marks: &[Mark]) -> Option<Span>
+    ensures { result ≡ named_type 0 marks.now }
+{
     let mut rest = marks;
     'attributes: loop {
         let length = attribute_length(rest);
@@ -86,20 +105,25 @@ fn named_type(marks: &[Mark]) -> Option<Span> {
 }
 
 /// The types that a declaration names behind its first colon.
-pub fn inherited(alloc: Global, marks: &[Mark]) -> Result<Vec<Span>, AllocError> {
-    let mut types = Vec::new(alloc);
-    let colon = length_before(marks, |mark, outside| {
-        outside && (is_colon(mark) || is_where(mark.keyword))
-    });
-    match marks.get(colon) {
-        Some(mark) if is_colon(mark) => (),
-        _ => return Ok(types),
+pub fn inherited(alloc: Global, marks: &[Mark]) -> Result<Vec<Span>, AllocError>
+    ensures { IfOk result (λ types. types.items ≡ inherited marks.now) }
+{
+    let colon = length_before(Stop::Clause, marks);
+    if !first_colon(behind(marks, colon)) {
+        return Ok(Vec::new(alloc));
     }
     let clause = behind(marks, colon + 1);
-    let end = length_before(clause, |mark, outside| outside && is_where(mark.keyword));
-    let mut rest = &clause[..end];
+    pieces(alloc, &clause[..length_before(Stop::Where, clause)])
+}
+
+/// What the pieces of a clause name.
+fn pieces(alloc: Global, clause: &[Mark]) -> Result<Vec<Span>, AllocError>
+    ensures { IfOk result (λ types. types.items ≡ pieces 0 clause.now) }
+{
+    let mut types = Vec::new(alloc);
+    let mut rest = clause;
     'pieces: while !rest.is_empty() {
-        let length = length_before(rest, |mark, outside| outside && is_comma(mark));
+        let length = length_before(Stop::Comma, rest);
         if let Some(named) = named_type(&rest[..length]) {
             types.push(named)?;
         }

@@ -6,7 +6,7 @@ use crate::accessors::lists_accessors;
 use crate::bindings::{Bound, bindings, place_of};
 use crate::fault::{ParseFault, ParseKind};
 use crate::heads::behind;
-use crate::inherits::{extended_length, inherited, name_of, span_of, whole};
+use crate::inherits::{Stop, inherited, length_before, name_of, span_of, whole};
 use crate::items::items;
 use crate::level::{Level, marks_in};
 use crate::mark::Mark;
@@ -108,7 +108,7 @@ fn of_extension(
     starter: Mark,
     elements: Level,
 ) -> Result<Parts, Refusal<ParseFault>> {
-    let length = extended_length(elements.marks);
+    let length = length_before(Stop::Extended, elements.marks);
     let extended = whole(elements.upto(length).marks);
     if extended.is_none() {
         return Err(fault(starter.start, ParseKind::MissingName));
