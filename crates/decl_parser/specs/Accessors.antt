@@ -16,8 +16,8 @@ word_from count inside [] = 0
 word_from count (suc inside) (mark ∷ marks) = word_from (suc count) inside marks
 word_from count zero (mark ∷ marks) =
     by_length (attribute_length (mark ∷ marks))
-      (if is_accessor_modifier mark.keyword then word_from (suc count) 0 marks else (if is_accessor mark.keyword then suc count else 0))
-      (λ more. word_from (suc count) more marks)
+    (if is_accessor_modifier mark.keyword then word_from (suc count) 0 marks else (if is_accessor mark.keyword then suc count else 0))
+    (λ more. word_from (suc count) more marks)
 
 -- `async` and `throws`, and the type that may follow `throws`
 abbrev pub effects_length : Bool → List Mark → ℕ
@@ -55,7 +55,7 @@ accessors_from braces_wanted inside [] = Ok []
 accessors_from braces_wanted (suc inside) (mark ∷ marks) = accessors_from braces_wanted inside marks
 accessors_from braces_wanted zero (mark ∷ marks) =
     by_length (accessor_length braces_wanted (mark ∷ marks)) (Err (fault mark.start NotAnAccessor)) (λ more.
-      and_then (accessors_from braces_wanted more marks) (λ words. Ok (with_first (drop (word_from 0 0 (mark ∷ marks) - 1) (mark ∷ marks)) words)))
+    and_then (accessors_from braces_wanted more marks) (λ words. Ok (with_first (drop (word_from 0 0 (mark ∷ marks) - 1) (mark ∷ marks)) words)))
 
 abbrev pub is_some_accessor : Result (List Span) ParseFault → Bool
 is_some_accessor (Ok (word ∷ words)) = true

@@ -89,9 +89,9 @@ item_by place before first seen head count [] = Err (fault first.start NotADecla
 item_by place before first seen head count (starter ∷ behind) =
     if not (has_place place (kind_of starter.mark)) then Err (fault first.start NotADeclaration)
     else and_then (use_fits head starter.mark) (λ fits.
-      and_then (parts (kind_of starter.mark) starter.mark (take (count - head) behind)) (λ parts.
-      and_then (use_ends before starter.mark (take count seen)) (λ alone.
-      and_then (ends (marks_of (take count seen))) (λ ended. Ok (assembled before first seen (kind_of starter.mark) head count parts)))))
+    and_then (parts (kind_of starter.mark) starter.mark (take (count - head) behind)) (λ parts.
+    and_then (use_ends before starter.mark (take count seen)) (λ alone.
+    and_then (ends (marks_of (take count seen))) (λ ended. Ok (assembled before first seen (kind_of starter.mark) head count parts)))))
 
 -- the declaration that begins with the first element; `before` are the elements before it, the nearest first
 abbrev pub item_at : Place → List Mark → Mark → List Seen → Result ItemSeen ParseFault
@@ -104,5 +104,5 @@ items_from place (suc inside) before (s ∷ seen) = items_from place inside (s.m
 items_from place zero before (s ∷ seen) =
     if is_semicolon s.mark then items_from place 0 (s.mark ∷ before) seen
     else by_length s.mark.head (Err (fault s.mark.start NotADeclaration)) (λ more.
-      and_then (item_at place before s.mark (s ∷ seen)) (λ first.
-      and_then (items_from place (more + run_length false (drop more (marks_of seen))) (s.mark ∷ before) seen) (λ others. Ok (cons first others))))
+    and_then (item_at place before s.mark (s ∷ seen)) (λ first.
+    and_then (items_from place (more + run_length false (drop more (marks_of seen))) (s.mark ∷ before) seen) (λ others. Ok (cons first others))))

@@ -48,10 +48,10 @@ found_from blocks own (suc left) zero before (s ∷ seen) =
     let used = use_length blocks.all before (take (suc left) marks) in
     let own_attribute = if nat_lt 0 own then attribute_length marks else 0 in
     by_length used
-      (by_length own_attribute
-        (joined (joined (attribute_found s seen) (inside_found blocks s)) (found_from blocks (own - 1) left 0 (s.mark ∷ before) seen))
-        (λ more. found_from blocks (own - 1) left more (s.mark ∷ before) seen))
-      (λ more. joined (record { uses = use_of used s.mark (marks_of seen) ∷ []; locals = [] }) (found_from blocks (own - 1) left more (s.mark ∷ before) seen))
+    (by_length own_attribute
+    (joined (joined (attribute_found s seen) (inside_found blocks s)) (found_from blocks (own - 1) left 0 (s.mark ∷ before) seen))
+    (λ more. found_from blocks (own - 1) left more (s.mark ∷ before) seen))
+    (λ more. joined (record { uses = use_of used s.mark (marks_of seen) ∷ []; locals = [] }) (found_from blocks (own - 1) left more (s.mark ∷ before) seen))
 
 -- in a whole list
 unfoldable pub found_in : List Seen → Found

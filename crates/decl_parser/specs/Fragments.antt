@@ -36,7 +36,7 @@ attributes_from inside [] = Ok []
 attributes_from (suc inside) (s ∷ seen) = attributes_from inside seen
 attributes_from zero (s ∷ seen) =
     by_length (attribute_length (marks_of (s ∷ seen))) (Err (fault s.mark.start NotAnAttribute)) (λ more.
-      and_then (attributes_from more seen) (λ others. Ok (attr_of s.mark (s ∷ seen) ∷ others)))
+    and_then (attributes_from more seen) (λ others. Ok (attr_of s.mark (s ∷ seen) ∷ others)))
 
 -- an expression has an element, and no `;` among its elements
 abbrev pub no_semicolon : List Mark → Result (List ℕ) ParseFault

@@ -24,7 +24,11 @@ fn word_length(marks: &[Mark]) -> usize
         } else if is_accessor_modifier(mark.keyword) {
             count += 1;
         } else {
-            return if is_accessor(mark.keyword) { count + 1 } else { 0 };
+            return if is_accessor(mark.keyword) {
+                count + 1
+            } else {
+                0
+            };
         }
     }
     0
@@ -138,7 +142,10 @@ pub fn accessor_words(alloc: Global, marks: &[Mark]) -> Result<Vec<Span>, Refusa
         let length = accessor_length(behind(marks, at), true);
         if length == 0 {
             let kind = ParseKind::NotAnAccessor;
-            return Err(Refusal::Fault(ParseFault { at: mark.start, kind }));
+            return Err(Refusal::Fault(ParseFault {
+                at: mark.start,
+                kind,
+            }));
         }
         if let Some(word) = accessor_word(behind(marks, at)) {
             words.push(word).map_err(AllocError::from)?;

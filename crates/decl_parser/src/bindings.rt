@@ -5,7 +5,9 @@ ghost use Rattle.decl_parser.specs.Bindings.{begins_binding, binding_length};
 
 use crate::accessors::observes;
 use crate::fault::{ParseFault, ParseKind};
-use crate::heads::{behind, first_braces, first_colon, first_equals, first_parentheses, first_pattern};
+use crate::heads::{
+    behind, first_braces, first_colon, first_equals, first_parentheses, first_pattern,
+};
 use crate::inherits::{name_of, whole};
 use crate::level::{Level, inside, marks_in};
 use crate::mark::Mark;
@@ -65,8 +67,7 @@ pub fn bindings(
 fn begins_binding(marks: &[Mark]) -> bool
     ensures { result ≡ begins_binding marks.now }
 {
-    first_pattern(marks)
-        && (first_colon(behind(marks, 1)) || first_equals(behind(marks, 1)))
+    first_pattern(marks) && (first_colon(behind(marks, 1)) || first_equals(behind(marks, 1)))
 }
 
 /// How many elements a binding has behind its pattern.
@@ -104,7 +105,12 @@ fn binding_of(alloc: Global, elements: Level, at: usize) -> Result<Bound, Refusa
         Some(last) => last.end,
         None => 0,
     };
-    let Tail { type_span, equals, init, block } = tail;
+    let Tail {
+        type_span,
+        equals,
+        init,
+        block,
+    } = tail;
     let binding = Binding {
         names: Listed::from_vec(names),
         type_span,
@@ -249,7 +255,12 @@ fn without_initializer(elements: Level, at: usize) -> Result<Tail, Refusal<Parse
         Some(place) => Some(at + last_block(elements.marks, place)?),
         None => None,
     };
-    Ok(Tail { type_span, equals: None, init: None, block })
+    Ok(Tail {
+        type_span,
+        equals: None,
+        init: None,
+        block,
+    })
 }
 
 /// The place, where the braces there are the last element.

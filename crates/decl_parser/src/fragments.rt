@@ -65,7 +65,11 @@ fn attributes(
     outline: &mut Outline,
 ) -> Result<(), Refusal<ParseFault>> {
     let marks = marks_in(alloc, text, elements)?;
-    let list = Level { text, elements, marks: &marks };
+    let list = Level {
+        text,
+        elements,
+        marks: &marks,
+    };
     let mut attrs: Vec<Attr> = Vec::new(alloc);
     let mut at = 0;
     'attributes: while let Some(mark) = marks.get(at) {
@@ -92,7 +96,16 @@ fn accessors(
 ) -> Result<(), Refusal<ParseFault>> {
     let marks = marks_in(alloc, text, elements)?;
     let words = match (marks.first(), elements) {
-        (Some(braces), [Element::Nest { left: _, inner, right: _ }]) if is_braces(braces) => {
+        (
+            Some(braces),
+            [
+                Element::Nest {
+                    left: _,
+                    inner,
+                    right: _,
+                },
+            ],
+        ) if is_braces(braces) => {
             outline.inside = Span {
                 start: braces.start + 1,
                 end: braces.end - 1,
@@ -139,7 +152,11 @@ fn find_all(
         with_locals: true,
     };
     find_inside(alloc, text, elements, &mut found)?;
-    let Found { uses, locals, with_locals: _ } = found;
+    let Found {
+        uses,
+        locals,
+        with_locals: _,
+    } = found;
     outline.uses = Listed::from_vec(uses);
     outline.locals = Listed::from_vec(locals);
     Ok(())

@@ -5,7 +5,10 @@ ghost use Rattle.decl_parser.specs.Sorts.{is_arguments, is_braces, is_colon, is_
 ghost use Rattle.decl_parser.specs.Heads.{attribute_length, before_member, modifies_before, dots_length, first_angles, first_is, modifier_length, name_tail, prefix_length, starts};
 
 use crate::mark::Mark;
-use crate::sorts::{is_at, is_braces, is_colon, is_dot, is_equals, is_name, is_parentheses, is_pattern, is_pound, is_use, is_word};
+use crate::sorts::{
+    is_at, is_braces, is_colon, is_dot, is_equals, is_name, is_parentheses, is_pattern, is_pound,
+    is_use, is_word,
+};
 use crate::words::{Keyword, is_class, is_class_member, is_modifier, wants_name};
 
 /// What stands behind so many elements.

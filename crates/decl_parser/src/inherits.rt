@@ -64,7 +64,8 @@ fn stops(stop: Stop, mark: &Mark, outside: bool) -> bool
     ensures { result ≡ stops stop mark.now outside }
 {
     match stop {
-        Stop::Extended => is_braces(mark) || (outside && (is_colon(mark) || is_where(mark.keyword))),
+        Stop::Extended => is_braces(mark)
+            || (outside && (is_colon(mark) || is_where(mark.keyword))),
         Stop::Clause => outside && (is_colon(mark) || is_where(mark.keyword)),
         Stop::Where => outside && is_where(mark.keyword),
         Stop::Comma => outside && is_comma(mark),

@@ -61,7 +61,11 @@ pub fn items(
     place: Place,
 ) -> Result<Vec<Item>, Refusal<ParseFault>> {
     let marks = marks_in(alloc, text, elements)?;
-    let list = Level { text, elements, marks: &marks };
+    let list = Level {
+        text,
+        elements,
+        marks: &marks,
+    };
     let mut items = Vec::new(alloc);
     let mut at = 0;
     'items: while let Some(mark) = marks.get(at) {
@@ -148,7 +152,14 @@ fn assembled(
     kind: Kind,
     parts: Parts,
 ) -> Result<Item, AllocError> {
-    let Parts { names, bindings, inherits, extended, block, blocks } = parts;
+    let Parts {
+        names,
+        bindings,
+        inherits,
+        extended,
+        block,
+        blocks,
+    } = parts;
     let own = list.behind(range.0);
     let attrs = own_attributes(alloc, own, head)?;
     let mut found = Found {
@@ -157,7 +168,11 @@ fn assembled(
         with_locals: true,
     };
     find(alloc, list, range, range.0 + head, &blocks, &mut found)?;
-    let Found { uses, locals, with_locals: _ } = found;
+    let Found {
+        uses,
+        locals,
+        with_locals: _,
+    } = found;
     let span = span_between(list.upto(range.1).behind(range.0).marks);
     let after = match list.marks.get(range.1) {
         Some(next) if is_semicolon(next) => next.end,

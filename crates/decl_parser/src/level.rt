@@ -52,7 +52,11 @@ impl<'a> Level<'a> {
 pub fn inside(element: &Element) -> &[Element] {
     match element {
         Element::Leaf(_) => &[],
-        Element::Nest { left: _, inner, right: _ } => inner,
+        Element::Nest {
+            left: _,
+            inner,
+            right: _,
+        } => inner,
     }
 }
 

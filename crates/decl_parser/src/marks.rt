@@ -25,7 +25,11 @@ pub fn mark_of(text: &[u8], element: &Element) -> Mark
 {
     match element {
         Element::Leaf(token) => mark_between(text, *token, token.end),
-        Element::Nest { left, inner: _, right } => mark_between(text, *left, right.end),
+        Element::Nest {
+            left,
+            inner: _,
+            right,
+        } => mark_between(text, *left, right.end),
     }
 }
 
@@ -196,12 +200,8 @@ pub fn joins(previous: Option<Mark>, mark: Mark) -> bool
     ensures { result ≡ joins previous mark mark.sort }
 {
     match mark.sort {
-        Sort::Comma
-        | Sort::Colon
-        | Sort::Dot
-        | Sort::Backslash
-        | Sort::Equals
-        | Sort::Arrow => true,
+        Sort::Comma | Sort::Colon | Sort::Dot | Sort::Backslash | Sort::Equals | Sort::Arrow =>
+            true,
         Sort::Operator => operator_joins(previous, mark.spaced),
         Sort::Word => is_joining(mark.keyword),
         _ => false,

@@ -44,7 +44,10 @@ fn nothing(alloc: Global) -> Parts {
         inherits: Vec::new(alloc),
         extended: None,
         block: None,
-        blocks: Blocks { all: Vec::new(alloc), members: None },
+        blocks: Blocks {
+            all: Vec::new(alloc),
+            members: None,
+        },
     }
 }
 
@@ -165,7 +168,11 @@ fn operator_name(name: &Mark, rest: &[Mark]) -> Span {
     span
 }
 
-fn of_function(alloc: Global, starter: Mark, elements: Level) -> Result<Parts, Refusal<ParseFault>> {
+fn of_function(
+    alloc: Global,
+    starter: Mark,
+    elements: Level,
+) -> Result<Parts, Refusal<ParseFault>> {
     let name = function_name(starter, elements)?;
     code(alloc, name, false, elements.behind(1))
 }
@@ -213,7 +220,11 @@ fn code_block(
     }))
 }
 
-fn of_variable(alloc: Global, starter: Mark, elements: Level) -> Result<Parts, Refusal<ParseFault>> {
+fn of_variable(
+    alloc: Global,
+    starter: Mark,
+    elements: Level,
+) -> Result<Parts, Refusal<ParseFault>> {
     let bounds = bindings(alloc, starter.start, elements)?;
     let mut parts = nothing(alloc);
     for bound in bounds {

@@ -1,9 +1,9 @@
 // Where a declaration stands.
 
-use swift_tree::Kind;
-
 ghost use Rattle.std.specs.Prelude.{◌≡◌};
 ghost use Rattle.decl_parser.specs.Places.{has_place};
+
+use swift_tree::Kind;
 
 /// Where a declaration stands, as far as its kind has to have a place there.
 #[derive(Clone, Copy, PartialEq, Eq, Debug)]

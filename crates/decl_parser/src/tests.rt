@@ -7,11 +7,7 @@ use std::test::Fail;
 use swift_base::{Refusal, Span};
 use swift_tree::{Attr, Binding, Block, BlockShape, Item, MacroUse, Outline, Shape};
 
-fn parse_as(
-    alloc: Global,
-    shape: Shape,
-    text: &[u8],
-) -> Result<Outline, Refusal<ParseFault>> {
+fn parse_as(alloc: Global, shape: Shape, text: &[u8]) -> Result<Outline, Refusal<ParseFault>> {
     match shape {
         Shape::File => parse_file(alloc, text),
         Shape::Items => parse_items(alloc, text),
@@ -154,69 +150,242 @@ fn kind_text(item: &Item) -> &'static [u8] {
 const READ: &[(Shape, &str, &str)] = &[
     (Shape::File, "", ""),
     (Shape::File, "struct S {}\n", "struct S {}"),
-    (Shape::File, "/* a /* b */ c */ struct S {\n  let t = #\"a \"b\" \\(x)\"#\n  let m = \"\"\"\n    \"q\" \\(f(1))\n    \"\"\"\n  var o: Int?\n  var p = a\n    ? b\n    : c\n  func f() { guard let x = y else { return } }\n}\n", "struct S {let t (t = #\"a \"b\" \\(x)\"#); let m (m = \"\"\"\n    \"q\" \\(f(1))\n    \"\"\"); var o (o: Int?); var p (p = a\n    ? b\n    : c); func f body}"),
-    (Shape::File, "import Foundation\n\n/// A counter.\n@Watch\nfinal class Counter {\n  var count: Int = 0\n  func bump() { count += 1 }\n}\n", "import; class Counter @Watch {var count (count: Int = 0); func bump body}"),
+    (
+        Shape::File,
+        "/* a /* b */ c */ struct S {\n  let t = #\"a \"b\" \\(x)\"#\n  let m = \"\"\"\n    \"q\" \\(f(1))\n    \"\"\"\n  var o: Int?\n  var p = a\n    ? b\n    : c\n  func f() { guard let x = y else { return } }\n}\n",
+        "struct S {let t (t = #\"a \"b\" \\(x)\"#); let m (m = \"\"\"\n    \"q\" \\(f(1))\n    \"\"\"); var o (o: Int?); var p (p = a\n    ? b\n    : c); func f body}",
+    ),
+    (
+        Shape::File,
+        "import Foundation\n\n/// A counter.\n@Watch\nfinal class Counter {\n  var count: Int = 0\n  func bump() { count += 1 }\n}\n",
+        "import; class Counter @Watch {var count (count: Int = 0); func bump body}",
+    ),
     (Shape::Items, "case a, b(Int)", "case a,b"),
     (Shape::Attributes, "@A @B(1)", "@A@B(1)"),
     (Shape::Accessors, "get { 1 }", "get"),
-    (Shape::Accessors, "{ get { #p } set(v) { x = v } }", "get,set #p/p"),
+    (
+        Shape::Accessors,
+        "{ get { #p } set(v) { x = v } }",
+        "get,set #p/p",
+    ),
     (Shape::Accessors, "{}", ""),
     (Shape::Accessors, "", ""),
-    (Shape::Accessors, "@inlinable mutating get async throws(E) { 1 } _modify { yield &x }", "get,_modify ~inlinable"),
+    (
+        Shape::Accessors,
+        "@inlinable mutating get async throws(E) { 1 } _modify { yield &x }",
+        "get,_modify ~inlinable",
+    ),
     (Shape::Attributes, "", ""),
-    (Shape::Attributes, "@a.b.C<Int, [D]>(#p(#q), 1)\n@`d`", "@a.b.C(#p(#q), 1)!^#p(#q)/p@d"),
-    (Shape::Expression, "f(#p { 1 } g: { #q }, #r<Int>(1))", " #p { 1 } g: { #q }/p #r<Int>(1)/r"),
-    (Shape::Expression, "#outer(#inner(1))", " #outer(#inner(1))/outer"),
+    (
+        Shape::Attributes,
+        "@a.b.C<Int, [D]>(#p(#q), 1)\n@`d`",
+        "@a.b.C(#p(#q), 1)!^#p(#q)/p@d",
+    ),
+    (
+        Shape::Expression,
+        "f(#p { 1 } g: { #q }, #r<Int>(1))",
+        " #p { 1 } g: { #q }/p #r<Int>(1)/r",
+    ),
+    (
+        Shape::Expression,
+        "#outer(#inner(1))",
+        " #outer(#inner(1))/outer",
+    ),
     (Shape::File, "let x = -1", "let x (x = -1)"),
     (Shape::File, "var x: Int?=nil", "var x (x: Int?=nil)"),
     (Shape::File, "let x: = 1", "let x (x = 1)"),
-    (Shape::File, "var a: [B<C, D>], e = f, g = h", "var a,e,g (a: [B<C, D>]) (e = f) (g = h)"),
-    (Shape::File, "var a = b < c, d = e", "var a,d (a = b < c) (d = e)"),
+    (
+        Shape::File,
+        "var a: [B<C, D>], e = f, g = h",
+        "var a,e,g (a: [B<C, D>]) (e = f) (g = h)",
+    ),
+    (
+        Shape::File,
+        "var a = b < c, d = e",
+        "var a,d (a = b < c) (d = e)",
+    ),
     (Shape::File, "var a = b, c", "var a (a = b, c)"),
-    (Shape::File, "let (a, b: (c, _)), `d`: Int", "let a,c,d (a,c) (d: Int)"),
-    (Shape::File, "var x: Int { 1 } = 2", "var x (x: Int { 1 } = 2)"),
-    (Shape::File, "var x: Int { get }", "var x (x: Int) accessors"),
-    (Shape::File, "var x: Int { get; set }", "var x (x: Int) body"),
-    (Shape::File, "var x = { willSet }", "var x (x = { willSet })"),
-    (Shape::File, "var x = 1 { willSet { f() } didSet {} }", "var x (x = 1) accessors"),
-    (Shape::File, "var x = #p { willSet {} }", "var x #p/p (x = #p) accessors"),
-    (Shape::File, "var x = #p { 1 }", "var x #p { 1 }/p (x = #p { 1 })"),
-    (Shape::File, "var x { 1 }, y: Int { 2 }", "var x,y (x) (y: Int) body"),
-    (Shape::File, "func ==<T>(a: T, b: T) -> Bool {}", "func == body"),
+    (
+        Shape::File,
+        "let (a, b: (c, _)), `d`: Int",
+        "let a,c,d (a,c) (d: Int)",
+    ),
+    (
+        Shape::File,
+        "var x: Int { 1 } = 2",
+        "var x (x: Int { 1 } = 2)",
+    ),
+    (
+        Shape::File,
+        "var x: Int { get }",
+        "var x (x: Int) accessors",
+    ),
+    (
+        Shape::File,
+        "var x: Int { get; set }",
+        "var x (x: Int) body",
+    ),
+    (
+        Shape::File,
+        "var x = { willSet }",
+        "var x (x = { willSet })",
+    ),
+    (
+        Shape::File,
+        "var x = 1 { willSet { f() } didSet {} }",
+        "var x (x = 1) accessors",
+    ),
+    (
+        Shape::File,
+        "var x = #p { willSet {} }",
+        "var x #p/p (x = #p) accessors",
+    ),
+    (
+        Shape::File,
+        "var x = #p { 1 }",
+        "var x #p { 1 }/p (x = #p { 1 })",
+    ),
+    (
+        Shape::File,
+        "var x { 1 }, y: Int { 2 }",
+        "var x,y (x) (y: Int) body",
+    ),
+    (
+        Shape::File,
+        "func ==<T>(a: T, b: T) -> Bool {}",
+        "func == body",
+    ),
     (Shape::File, "func < (a: S, b: S) -> Bool {}", "func < body"),
-    (Shape::File, "func `f g`()\nfunc <<T>(a: T) {}", "func f g; func < body"),
-    (Shape::Items, "init?(x: Int) {}\ndeinit {}\nsubscript(i: Int) -> Int { get { 1 } }\nassociatedtype A", "init init body; deinit deinit body; subscript subscript accessors; associatedtype A"),
-    (Shape::File, "class C<T: P>: @unchecked B<T, U>, P where T: Q {}", "class C : B<T, U>,P ~unchecked {}"),
+    (
+        Shape::File,
+        "func `f g`()\nfunc <<T>(a: T) {}",
+        "func f g; func < body",
+    ),
+    (
+        Shape::Items,
+        "init?(x: Int) {}\ndeinit {}\nsubscript(i: Int) -> Int { get { 1 } }\nassociatedtype A",
+        "init init body; deinit deinit body; subscript subscript accessors; associatedtype A",
+    ),
+    (
+        Shape::File,
+        "class C<T: P>: @unchecked B<T, U>, P where T: Q {}",
+        "class C : B<T, U>,P ~unchecked {}",
+    ),
     (Shape::File, "struct S<T> where T: P {}", "struct S {}"),
-    (Shape::File, "extension A.B<C>: @retroactive P, Q where C: R {}", "extension of A.B<C> : P,Q ~retroactive {}"),
-    (Shape::File, "extension S where T: P {}", "extension of S {}"),
-    (Shape::File, "protocol P {\n  associatedtype A: B\n  var x: Int { get set }\n  func f()\n  init()\n}", "protocol P {associatedtype A; var x (x: Int) accessors; func f; init init}"),
-    (Shape::File, "enum E { indirect case a, b(c: Int); case d = 1 }", "enum E {case a,b; case d}"),
-    (Shape::File, "let a = b\n  + c\n  .d\nlet e = f", "let a (a = b\n  + c\n  .d); let e (e = f)"),
-    (Shape::File, "let a = b.\n  init(x)", "let a (a = b.\n  init(x))"),
-    (Shape::File, "infix operator +++ : A\nprecedencegroup A { x: y }", "operator; precedencegroup"),
-    (Shape::File, "class func f() {}\nclass var x = 1\nclass C {}", "func f body; var x (x = 1); class C {}"),
-    (Shape::File, "@A\n@B(\n1) public private(set)\nvar x = 1 ;; #p", "var x @A @B(\n1) (x = 1); use #p/p"),
-    (Shape::File, "func f() { if #p { 1 } else { #q {} } }", "func f #p/p #q {}/q body"),
-    (Shape::File, "func f() { if x.if(#p { 1 }), #r { } }", "func f #p { 1 }/p #r/r body"),
-    (Shape::File, "func f() {\n  @L(#u) func g(@M a: Int) {}\n  #v(@N b)\n}", "func f #u/u #v(@N b)/v ~L(#u)^#u/u ~M body"),
-    (Shape::File, "private(#a) @A(#b) let x = #c", "let x @A(#b)^#b/b #a/a #c/c (x = #c)"),
+    (
+        Shape::File,
+        "extension A.B<C>: @retroactive P, Q where C: R {}",
+        "extension of A.B<C> : P,Q ~retroactive {}",
+    ),
+    (
+        Shape::File,
+        "extension S where T: P {}",
+        "extension of S {}",
+    ),
+    (
+        Shape::File,
+        "protocol P {\n  associatedtype A: B\n  var x: Int { get set }\n  func f()\n  init()\n}",
+        "protocol P {associatedtype A; var x (x: Int) accessors; func f; init init}",
+    ),
+    (
+        Shape::File,
+        "enum E { indirect case a, b(c: Int); case d = 1 }",
+        "enum E {case a,b; case d}",
+    ),
+    (
+        Shape::File,
+        "let a = b\n  + c\n  .d\nlet e = f",
+        "let a (a = b\n  + c\n  .d); let e (e = f)",
+    ),
+    (
+        Shape::File,
+        "let a = b.\n  init(x)",
+        "let a (a = b.\n  init(x))",
+    ),
+    (
+        Shape::File,
+        "infix operator +++ : A\nprecedencegroup A { x: y }",
+        "operator; precedencegroup",
+    ),
+    (
+        Shape::File,
+        "class func f() {}\nclass var x = 1\nclass C {}",
+        "func f body; var x (x = 1); class C {}",
+    ),
+    (
+        Shape::File,
+        "@A\n@B(\n1) public private(set)\nvar x = 1 ;; #p",
+        "var x @A @B(\n1) (x = 1); use #p/p",
+    ),
+    (
+        Shape::File,
+        "func f() { if #p { 1 } else { #q {} } }",
+        "func f #p/p #q {}/q body",
+    ),
+    (
+        Shape::File,
+        "func f() { if x.if(#p { 1 }), #r { } }",
+        "func f #p { 1 }/p #r/r body",
+    ),
+    (
+        Shape::File,
+        "func f() {\n  @L(#u) func g(@M a: Int) {}\n  #v(@N b)\n}",
+        "func f #u/u #v(@N b)/v ~L(#u)^#u/u ~M body",
+    ),
+    (
+        Shape::File,
+        "private(#a) @A(#b) let x = #c",
+        "let x @A(#b)^#b/b #a/a #c/c (x = #c)",
+    ),
     (Shape::File, "func f() -> #T { 1 }", "func f #T/T body"),
-    (Shape::File, "#p<A>(1) { 2 } c: { 3 }\n#q", "use #p<A>(1) { 2 } c: { 3 }/p; use #q/q"),
-    (Shape::File, "macro m() = #externalMacro(module: \"A\", type: \"B\")", "macro m"),
-    (Shape::File, "let a =\n#p\nlet b = 1", "let a #p/p (a = #p); let b (b = 1)"),
+    (
+        Shape::File,
+        "#p<A>(1) { 2 } c: { 3 }\n#q",
+        "use #p<A>(1) { 2 } c: { 3 }/p; use #q/q",
+    ),
+    (
+        Shape::File,
+        "macro m() = #externalMacro(module: \"A\", type: \"B\")",
+        "macro m",
+    ),
+    (
+        Shape::File,
+        "let a =\n#p\nlet b = 1",
+        "let a #p/p (a = #p); let b (b = 1)",
+    ),
     (Shape::File, "let _ = 1", "let ( = 1)"),
-    (Shape::File, "let a = #p<T >\nlet b", "let a #p<T >/p (a = #p<T >\nlet b)"),
-    (Shape::File, "let a = #p < b\n\nlet c: D<E", "let a #p/p (a = #p < b); let c (c: D<E)"),
-    (Shape::File, "let a = @b<c\n>d\nlet e = @f<g\nlet h", "let a ~b (a = @b<c\n>d); let e ~f (e = @f<g); let h (h)"),
-    (Shape::File, "func f() { a = b ? #p { 1 } : c; while #q { } }", "func f #p { 1 }/p #q/q body"),
+    (
+        Shape::File,
+        "let a = #p<T >\nlet b",
+        "let a #p<T >/p (a = #p<T >\nlet b)",
+    ),
+    (
+        Shape::File,
+        "let a = #p < b\n\nlet c: D<E",
+        "let a #p/p (a = #p < b); let c (c: D<E)",
+    ),
+    (
+        Shape::File,
+        "let a = @b<c\n>d\nlet e = @f<g\nlet h",
+        "let a ~b (a = @b<c\n>d); let e ~f (e = @f<g); let h (h)",
+    ),
+    (
+        Shape::File,
+        "func f() { a = b ? #p { 1 } : c; while #q { } }",
+        "func f #p { 1 }/p #q/q body",
+    ),
 ];
 
 /// Texts that are refused, with the place and the kind of the first fault.
 const REFUSED: &[(Shape, &str, u32, ParseKind)] = &[
     (Shape::File, "struct\n", 0, ParseKind::MissingName),
     (Shape::File, "let a = 1 +\n", 10, ParseKind::DanglingJoiner),
-    (Shape::File, "let s = \"\\(#p(1))\"\n", 11, ParseKind::UseInInterpolation),
+    (
+        Shape::File,
+        "let s = \"\\(#p(1))\"\n",
+        11,
+        ParseKind::UseInInterpolation,
+    ),
     (Shape::File, "struct S {", 9, ParseKind::Unclosed),
     (Shape::File, "let a = (]", 9, ParseKind::Mismatched),
     (Shape::File, ")", 0, ParseKind::Unopened),
@@ -231,21 +400,56 @@ const REFUSED: &[(Shape, &str, u32, ParseKind)] = &[
     (Shape::Expression, "a; b", 1, ParseKind::NotAnExpression),
     (Shape::Attributes, "@A x", 3, ParseKind::NotAnAttribute),
     (Shape::Attributes, "@A @ 1", 3, ParseKind::NotAnAttribute),
-    (Shape::Accessors, "get { 1 } x", 10, ParseKind::NotAnAccessor),
-    (Shape::Accessors, "get { 1 } @A set", 10, ParseKind::NotAnAccessor),
-    (Shape::Accessors, "{ get { 1 }; set { } }", 11, ParseKind::NotAnAccessor),
+    (
+        Shape::Accessors,
+        "get { 1 } x",
+        10,
+        ParseKind::NotAnAccessor,
+    ),
+    (
+        Shape::Accessors,
+        "get { 1 } @A set",
+        10,
+        ParseKind::NotAnAccessor,
+    ),
+    (
+        Shape::Accessors,
+        "{ get { 1 }; set { } }",
+        11,
+        ParseKind::NotAnAccessor,
+    ),
     (Shape::Accessors, "{ 1 }", 2, ParseKind::NotAnAccessor),
     (Shape::Accessors, "[]", 0, ParseKind::NotAnAccessor),
     (Shape::File, "1", 0, ParseKind::NotADeclaration),
-    (Shape::File, "let a = 1\n;f()", 11, ParseKind::NotADeclaration),
+    (
+        Shape::File,
+        "let a = 1\n;f()",
+        11,
+        ParseKind::NotADeclaration,
+    ),
     (Shape::File, "@A init() {}", 0, ParseKind::NotADeclaration),
-    (Shape::File, "struct S { macro m() }", 11, ParseKind::NotADeclaration),
+    (
+        Shape::File,
+        "struct S { macro m() }",
+        11,
+        ParseKind::NotADeclaration,
+    ),
     (Shape::File, "struct S { case }", 11, ParseKind::MissingName),
     (Shape::File, "struct S {} x", 12, ParseKind::NotADeclaration),
-    (Shape::File, "func f() {} ()", 12, ParseKind::NotADeclaration),
+    (
+        Shape::File,
+        "func f() {} ()",
+        12,
+        ParseKind::NotADeclaration,
+    ),
     (Shape::File, "#p(1) x", 6, ParseKind::NotADeclaration),
     (Shape::File, "#p\n(1)", 3, ParseKind::NotADeclaration),
-    (Shape::File, "private\n(set) var x", 0, ParseKind::NotADeclaration),
+    (
+        Shape::File,
+        "private\n(set) var x",
+        0,
+        ParseKind::NotADeclaration,
+    ),
     (Shape::File, "#if A\n#endif", 0, ParseKind::BuiltinItem),
     (Shape::File, "@A #if", 3, ParseKind::AttributedUse),
     (Shape::File, "public #p", 7, ParseKind::AttributedUse),
@@ -256,8 +460,18 @@ const REFUSED: &[(Shape, &str, u32, ParseKind)] = &[
     (Shape::File, "extension : P {}", 0, ParseKind::MissingName),
     (Shape::File, "extension S: P", 0, ParseKind::MissingBlock),
     (Shape::File, "func (x) {}", 0, ParseKind::MissingName),
-    (Shape::File, "enum E { case a, 1 }", 15, ParseKind::MissingName),
-    (Shape::File, "enum E { case a, }", 15, ParseKind::MissingName),
+    (
+        Shape::File,
+        "enum E { case a, 1 }",
+        15,
+        ParseKind::MissingName,
+    ),
+    (
+        Shape::File,
+        "enum E { case a, }",
+        15,
+        ParseKind::MissingName,
+    ),
     (Shape::File, "let x=-1", 5, ParseKind::BadBinding),
     (Shape::File, "let", 0, ParseKind::BadBinding),
     (Shape::File, "let 1", 4, ParseKind::BadBinding),
@@ -265,11 +479,26 @@ const REFUSED: &[(Shape, &str, u32, ParseKind)] = &[
     (Shape::File, "let a = ", 6, ParseKind::BadBinding),
     (Shape::File, "let a = , b = 1", 6, ParseKind::BadBinding),
     (Shape::File, "let x y", 6, ParseKind::BadBinding),
-    (Shape::File, "var x: Int { 1 } foo", 11, ParseKind::BadBinding),
+    (
+        Shape::File,
+        "var x: Int { 1 } foo",
+        11,
+        ParseKind::BadBinding,
+    ),
     (Shape::File, "var x { 1 } = 2", 6, ParseKind::BadBinding),
     (Shape::File, "let x:", 5, ParseKind::DanglingJoiner),
-    (Shape::File, "struct S { let a = 1 + }\nlet", 21, ParseKind::DanglingJoiner),
-    (Shape::File, "struct S { let a } let", 19, ParseKind::NotADeclaration),
+    (
+        Shape::File,
+        "struct S { let a = 1 + }\nlet",
+        21,
+        ParseKind::DanglingJoiner,
+    ),
+    (
+        Shape::File,
+        "struct S { let a } let",
+        19,
+        ParseKind::NotADeclaration,
+    ),
 ];
 
 #[test]
@@ -282,14 +511,21 @@ fn texts_are_read(rt: HostRuntime) -> Result<(), Fail> {
                 return Ok(());
             }
         };
-        let mut sketch = Sketch { text: text.as_bytes(), out: Vec::new(rt.alloc()) };
+        let mut sketch = Sketch {
+            text: text.as_bytes(),
+            out: Vec::new(rt.alloc()),
+        };
         sketch.items(&outline.items)?;
         sketch.attrs(b"@", outline.attrs.items())?;
         sketch.spans(b"", outline.accessors.items())?;
         sketch.uses(b" ", outline.uses.items())?;
         sketch.attrs(b" ~", outline.locals.items())?;
         let Sketch { text: _, out } = sketch;
-        assert_eq!(rt; std::str::from_utf8(&out).unwrap_or("?"), *shown, "of {text:?}");
+        assert_eq!(rt;
+            std::str::from_utf8(&out).unwrap_or("?"),
+            *shown,
+            "of {text:?}"
+        );
         assert_eq!(rt; outline.print(rt.alloc())?.as_slice(), text.as_bytes());
     }
     Ok(())
@@ -302,29 +538,51 @@ fn texts_are_refused(rt: HostRuntime) -> Result<(), Fail> {
             Ok(_) => None,
             Err(refusal) => Some(refusal),
         };
-        let wanted = Some(Refusal::Fault(ParseFault { at: *at, kind: *kind }));
+        let wanted = Some(Refusal::Fault(ParseFault {
+            at: *at,
+            kind: *kind,
+        }));
         assert_eq!(rt; refusal, wanted, "of {text:?}");
     }
     Ok(())
 }
 
 /// A source with its members; `show` lists the offsets of their first tokens.
-const COUNTER: &[u8] = b"import Foundation\n\n/// A counter.\n@Watch\nfinal class Counter {\n  var count: Int = 0\n  func bump() { count += 1 }\n}\n";
+const COUNTER: &[u8] =
+    b"import Foundation\n\n/// A counter.\n@Watch\nfinal class Counter {\n  var count: Int = 0\n  func bump() { count += 1 }\n}\n";
 
 #[test]
 fn declarations_lie_in_their_places(rt: HostRuntime) -> Result<(), Fail> {
     let outline = parse_file(rt.alloc(), COUNTER)?;
     assert_eq!(rt; outline.items.len(), 2);
     assert_eq!(rt; outline.items[0].span, Span { start: 0, end: 17 });
-    assert_eq!(rt; outline.items[1].span, Span { start: 34, end: 114 });
+    assert_eq!(rt;
+        outline.items[1].span,
+        Span {
+            start: 34,
+            end: 114
+        }
+    );
     let Some(block) = &outline.items[1].block else {
         assert!(rt; false, "a class has a block");
         return Ok(());
     };
-    assert_eq!(rt; block.span, Span { start: 61, end: 114 });
+    assert_eq!(rt;
+        block.span,
+        Span {
+            start: 61,
+            end: 114
+        }
+    );
     assert_eq!(rt; block.members.len(), 2);
     assert_eq!(rt; block.members[0].span, Span { start: 65, end: 83 });
-    assert_eq!(rt; block.members[1].span, Span { start: 86, end: 112 });
+    assert_eq!(rt;
+        block.members[1].span,
+        Span {
+            start: 86,
+            end: 112
+        }
+    );
     assert_eq!(rt; outline.inside, Span { start: 0, end: 115 });
     Ok(())
 }
@@ -360,7 +618,14 @@ const INSIDE: [(Shape, &str, u32, u32); 6] = [
 fn fragments_have_a_part_that_is_spliced(rt: HostRuntime) -> Result<(), Fail> {
     for (shape, text, start, end) in &INSIDE {
         let outline = parse_as(rt.alloc(), *shape, text.as_bytes())?;
-        assert_eq!(rt; outline.inside, Span { start: *start, end: *end }, "of {text:?}");
+        assert_eq!(rt;
+            outline.inside,
+            Span {
+                start: *start,
+                end: *end
+            },
+            "of {text:?}"
+        );
     }
     Ok(())
 }

@@ -3,7 +3,9 @@
 ghost use Rattle.std.specs.Prelude.{◌≡◌, ◌+◌, ◌≤◌, length, reverse};
 ghost use Rattle.decl_parser.specs.Uses.{call_length, in_condition, is_closure, labels_length, use_angles, use_length};
 
-use crate::heads::{attribute_length, behind, dots_length, first_angles, first_arguments, first_use};
+use crate::heads::{
+    attribute_length, behind, dots_length, first_angles, first_arguments, first_use,
+};
 use crate::inherits::{name_of, span_of};
 use crate::level::{Level, marks_in};
 use crate::mark::Mark;
@@ -59,9 +61,7 @@ fn use_angles(marks: &[Mark]) -> usize
     ensures bound { result ≤ length marks.now }
 {
     match marks.first() {
-        Some(mark)
-            if mark.begins_angle && !mark.spaced && mark.angles as usize <= marks.len() =>
-        {
+        Some(mark) if mark.begins_angle && !mark.spaced && mark.angles as usize <= marks.len() => {
             mark.angles as usize
         }
         _ => 0,
@@ -75,9 +75,11 @@ fn labels_length(blocks: &[u32], marks: &[Mark]) -> usize
 {
     let mut rest = marks;
     let mut count = 0;
-    'labels: while let (Some(label), Some(colon), Some(closure)) =
-        (rest.first(), rest.get(1), rest.get(2))
-    {
+    'labels: while let (Some(label), Some(colon), Some(closure)) = (
+        rest.first(),
+        rest.get(1),
+        rest.get(2),
+    ) {
         let named = is_word(label) && !label.first && is_colon(colon) && !colon.first;
         if !named || !is_closure(blocks, closure) {
             return count;
@@ -140,9 +142,11 @@ fn use_of(marks: &[Mark]) -> Option<MacroUse> {
 pub fn attr_of(alloc: Global, elements: Level) -> Result<Option<Attr>, AllocError> {
     let marks = elements.marks;
     let length = attribute_length(marks);
-    let (Some(at), Some(first), Some(last)) =
-        (marks.first(), marks.get(1), marks.get(length.saturating_sub(1)))
-    else {
+    let (Some(at), Some(first), Some(last)) = (
+        marks.first(),
+        marks.get(1),
+        marks.get(length.saturating_sub(1)),
+    ) else {
         return Ok(None);
     };
     if length == 0 {
@@ -196,7 +200,11 @@ fn uses_inside(
         with_locals: false,
     };
     find_inside(alloc, text, elements, &mut found)?;
-    let Found { uses, locals: _, with_locals: _ } = found;
+    let Found {
+        uses,
+        locals: _,
+        with_locals: _,
+    } = found;
     Ok(uses)
 }
 
@@ -209,8 +217,15 @@ pub fn find_inside(
     found: &mut Found,
 ) -> Result<(), AllocError> {
     let marks = marks_in(alloc, text, elements)?;
-    let whole = Level { text, elements, marks: &marks };
-    let blocks = Blocks { all: Vec::new(alloc), members: None };
+    let whole = Level {
+        text,
+        elements,
+        marks: &marks,
+    };
+    let blocks = Blocks {
+        all: Vec::new(alloc),
+        members: None,
+    };
     find(alloc, whole, (0, elements.len()), 0, &blocks, found)
 }
 
@@ -227,7 +242,11 @@ pub fn find(
 ) -> Result<(), AllocError> {
     let mut at = range.0;
     'elements: while at < range.1 {
-        let used = use_length(&blocks.all, list.upto(at).marks, list.upto(range.1).behind(at).marks);
+        let used = use_length(
+            &blocks.all,
+            list.upto(at).marks,
+            list.upto(range.1).behind(at).marks,
+        );
         let attribute = attribute_length(behind(list.marks, at));
         if used > 0 {
             if let Some(used) = use_of(list.behind(at).upto(used).marks) {
@@ -262,9 +281,13 @@ fn find_element(
         return Ok(());
     }
     match elements.elements.first() {
-        Some(Element::Nest { left: _, inner, right: _ }) => {
-            find_inside(alloc, elements.text, inner, found)
-        }
+        Some(
+            Element::Nest {
+                left: _,
+                inner,
+                right: _,
+            },
+        ) => { find_inside(alloc, elements.text, inner, found) }
         _ => Ok(()),
     }
 }

@@ -185,7 +185,10 @@ pub fn is_joining(keyword: Keyword) -> bool
 pub fn is_accessor(keyword: Keyword) -> bool
     ensures { result ≡ is_accessor keyword }
 {
-    matches!(keyword, Keyword::Accessor | Keyword::Observer | Keyword::Starter(Kind::Init))
+    matches!(
+        keyword,
+        Keyword::Accessor | Keyword::Observer | Keyword::Starter(Kind::Init)
+    )
 }
 
 pub fn is_observer(keyword: Keyword) -> bool
@@ -203,7 +206,10 @@ pub fn is_operator_name(keyword: Keyword) -> bool
 pub fn is_class_member(keyword: Keyword) -> bool
     ensures { result ≡ is_class_member keyword }
 {
-    matches!(keyword, Keyword::Starter(Kind::Func | Kind::Var | Kind::Let | Kind::Subscript))
+    matches!(
+        keyword,
+        Keyword::Starter(Kind::Func | Kind::Var | Kind::Let | Kind::Subscript)
+    )
 }
 
 pub fn is_class(keyword: Keyword) -> bool
