@@ -1,4 +1,5 @@
 pub mod Steps
+pub mod Checks
 pub mod Cases
 pub mod Arrays
 pub mod Members

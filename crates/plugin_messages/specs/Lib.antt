@@ -1,6 +1,8 @@
 pub mod Answers
 pub mod Tables
 pub mod Fields
+pub mod Rows
+pub mod Checked
 pub mod RequestParts
 pub mod Diagnostics
 pub mod HostOf

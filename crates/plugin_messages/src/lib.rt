@@ -8,6 +8,7 @@ mod laws;
 mod message;
 mod reading;
 mod request;
+mod table;
 #[cfg(test)]
 mod tests;
 mod writing;
