@@ -1,5 +1,6 @@
 pub mod Steps
 pub mod Checks
+pub mod Objects
 pub mod Cases
 pub mod Arrays
 pub mod Members

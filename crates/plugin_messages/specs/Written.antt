@@ -10,6 +10,9 @@ use Rattle.plugin_messages.specs.declared.message.Diagnostic.{Diagnostic}
 use Rattle.plugin_messages.specs.declared.message.Note.{Note}
 use Rattle.plugin_messages.specs.declared.labels.TheConstants.{CAPABILITY, PROTOCOL_VERSION, FILE_ID, FILE_NAME, OFFSET, LINE, COLUMN, KIND, SOURCE, LOCATION, MODULE_NAME, TYPE_NAME, NAME, MESSAGE, SEVERITY, POSITION, HIGHLIGHTS, NOTES, FIX_ITS}
 use Rattle.plugin_messages.specs.Tables.{kind_text, severity_text}
+use Rattle.plugin_messages.specs.declared.table.Shape.{Shape}
+use Rattle.plugin_messages.specs.declared.table.Shape.TheVariants as shape
+use Rattle.plugin_messages.specs.Rows.{Row, rows_of}
 
 -- a label and its value, where it has one
 abbrev pub Field : Type 0
@@ -101,3 +104,23 @@ case_fields name labels = (name, Some labels) ∷ []
 
 unfoldable pub case_data : List ℕ → Data → Data
 case_data name labels = object_of (case_fields name labels)
+
+abbrev pub labelled : List Row → List (Option Data) → List Field
+labelled [] values = []
+labelled (row ∷ rows) [] = []
+labelled (row ∷ rows) (value ∷ values) = (row.0, value) ∷ labelled rows values
+
+-- the object of these values, in the order of its rows
+unfoldable pub object_data : Shape → List (Option Data) → Data
+object_data shape values = object_of (labelled (rows_of shape) values)
+
+abbrev pub new_location_values : Location → List (Option Data)
+new_location_values location =
+    Some (string location.file_id) ∷
+    Some (string location.file_name) ∷
+    Some (number (unsigned location.offset)) ∷
+    Some (number (unsigned location.line)) ∷
+    Some (number (unsigned location.column)) ∷ []
+
+abbrev pub new_location_data : Location → Data
+new_location_data location = object_data shape.Location (new_location_values location)
