@@ -37,11 +37,11 @@ pub all_passed : {A B : Type 0} (check : B → Checked) (f : A → B) (xs : List
 unfolding all_checked
 all_passed check f xs i done rest = rest ∙ ap (λ l. all_checked check (map f l)) (drop_of_length-le xs done)
 
-pub list_of-items_of : (ds : List Data) → list_of (items_of ds) ≡ ds
+pub list_of_items_of : (ds : List Data) → list_of (items_of ds) ≡ ds
 unfolding list_of
-list_of-items_of [] = refl
-list_of-items_of (d ∷ ds) = ap (λ l. d ∷ l) (list_of-items_of ds)
+list_of_items_of [] = refl
+list_of_items_of (d ∷ ds) = ap (λ l. d ∷ l) (list_of_items_of ds)
 
 pub objects_checked : (check : Data → Checked) (label : List ℕ) (d : Data) (vs : List Value) (r : Result ⊤ (Refusal Reason))
     → as_array d ≡ Some (items_view vs) → Answers r (all_checked check (map view vs)) → Answers r (and_then (or_bad label (as_array d)) (λ items. all_checked check (list_of items)))
-objects_checked check label d vs r e h = rw (e, list_of-items_of (map view vs)) h
+objects_checked check label d vs r e h = rw (e, list_of_items_of (map view vs)) h

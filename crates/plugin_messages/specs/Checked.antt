@@ -10,6 +10,7 @@ use Rattle.plugin_messages.specs.declared.table.Sort.TheVariants as sort
 use Rattle.plugin_messages.specs.declared.table.Presence.{Presence}
 use Rattle.plugin_messages.specs.declared.table.Presence.TheVariants.{Required, Optional}
 use Rattle.plugin_messages.specs.declared.table.Shape.{Shape}
+use Rattle.plugin_messages.specs.declared.table.TheConstants.{DEEPEST}
 use Rattle.plugin_messages.specs.Answers.{and_then}
 use Rattle.plugin_messages.specs.Tables.{kind_of, severity_of}
 use Rattle.plugin_messages.specs.Fields.{present, or_bad, as_record, whole_below, list_of, version_in, role_in, kind_in, severity_in}
@@ -57,3 +58,7 @@ rows_checked inner rows d = all_checked (λ row. found_checked inner row (presen
 unfoldable pub object_checked : ℕ → Shape → List ℕ → Data → Checked
 object_checked zero shape label d = and_then (or_bad label (as_record d)) (λ _. Ok tt)
 object_checked (suc depth) shape label d = and_then (or_bad label (as_record d)) (rows_checked (object_checked depth) (rows_of shape))
+
+-- what the labels of a case spell, where they pass
+abbrev pub checked_as : {A : Type 0} → Shape → Data → A → Result A Reason
+checked_as shape d message = and_then (rows_checked (object_checked DEEPEST) (rows_of shape) d) (λ _. Ok message)

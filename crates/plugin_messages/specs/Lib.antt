@@ -3,6 +3,7 @@ pub mod Tables
 pub mod Fields
 pub mod Rows
 pub mod Checked
+pub mod Taken
 pub mod RequestParts
 pub mod Diagnostics
 pub mod HostOf

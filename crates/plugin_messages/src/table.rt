@@ -51,8 +51,8 @@ pub enum Shape {
     Position,
 }
 
-/// How many objects stand in one another at most: a case, a diagnostic, a note and its position.
-pub const DEEPEST: usize = 4;
+/// How many objects stand in one another at most in the labels of a case: a diagnostic, a note and its position.
+pub const DEEPEST: usize = 3;
 
 pub const GREETING_ROWS: [(&str, Sort, Presence); 1] = [(
     labels::CAPABILITY,
@@ -60,25 +60,60 @@ pub const GREETING_ROWS: [(&str, Sort, Presence); 1] = [(
     Presence::Required,
 )];
 
-pub const CAPABILITY_ROWS: [(&str, Sort, Presence); 1] =
-    [(labels::PROTOCOL_VERSION, Sort::Version, Presence::Required)];
+pub const CAPABILITY_ROWS: [(&str, Sort, Presence); 1] = [(
+    labels::PROTOCOL_VERSION,
+    Sort::Version,
+    Presence::Required,
+)];
 
 pub const FREESTANDING_ROWS: [(&str, Sort, Presence); 4] = [
-    (labels::MACRO, Sort::Object(Shape::Macro), Presence::Required),
+    (
+        labels::MACRO,
+        Sort::Object(Shape::Macro),
+        Presence::Required,
+    ),
     (labels::MACRO_ROLE, Sort::Role, Presence::Required),
     (labels::DISCRIMINATOR, Sort::Text, Presence::Required),
-    (labels::SYNTAX, Sort::Object(Shape::Syntax), Presence::Required),
+    (
+        labels::SYNTAX,
+        Sort::Object(Shape::Syntax),
+        Presence::Required,
+    ),
 ];
 
 pub const ATTACHED_ROWS: [(&str, Sort, Presence); 8] = [
-    (labels::MACRO, Sort::Object(Shape::Macro), Presence::Required),
+    (
+        labels::MACRO,
+        Sort::Object(Shape::Macro),
+        Presence::Required,
+    ),
     (labels::MACRO_ROLE, Sort::Role, Presence::Required),
     (labels::DISCRIMINATOR, Sort::Text, Presence::Required),
-    (labels::ATTRIBUTE_SYNTAX, Sort::Object(Shape::Syntax), Presence::Required),
-    (labels::DECL_SYNTAX, Sort::Object(Shape::Syntax), Presence::Required),
-    (labels::PARENT_DECL_SYNTAX, Sort::Object(Shape::Syntax), Presence::Optional),
-    (labels::EXTENDED_TYPE_SYNTAX, Sort::Object(Shape::Syntax), Presence::Optional),
-    (labels::CONFORMANCE_LIST_SYNTAX, Sort::Object(Shape::Syntax), Presence::Optional),
+    (
+        labels::ATTRIBUTE_SYNTAX,
+        Sort::Object(Shape::Syntax),
+        Presence::Required,
+    ),
+    (
+        labels::DECL_SYNTAX,
+        Sort::Object(Shape::Syntax),
+        Presence::Required,
+    ),
+    (
+        labels::PARENT_DECL_SYNTAX,
+        Sort::Object(Shape::Syntax),
+        Presence::Optional,
+    ),
+    (
+        labels::EXTENDED_TYPE_SYNTAX,
+        Sort::Object(Shape::Syntax),
+        Presence::Optional,
+    ),
+    (
+        labels::CONFORMANCE_LIST_SYNTAX,
+        Sort::Object(Shape::Syntax),
+        Presence::Optional,
+    ),
 ];
 
 pub const LOAD_ROWS: [(&str, Sort, Presence); 2] = [
@@ -88,12 +123,20 @@ pub const LOAD_ROWS: [(&str, Sort, Presence); 2] = [
 
 pub const REPLY_ROWS: [(&str, Sort, Presence); 2] = [
     (labels::EXPANDED_SOURCE, Sort::Text, Presence::Optional),
-    (labels::DIAGNOSTICS, Sort::Objects(Shape::Diagnostic), Presence::Required),
+    (
+        labels::DIAGNOSTICS,
+        Sort::Objects(Shape::Diagnostic),
+        Presence::Required,
+    ),
 ];
 
 pub const LOADING_ROWS: [(&str, Sort, Presence); 2] = [
     (labels::LOADED, Sort::Flag, Presence::Required),
-    (labels::DIAGNOSTICS, Sort::Objects(Shape::Diagnostic), Presence::Required),
+    (
+        labels::DIAGNOSTICS,
+        Sort::Objects(Shape::Diagnostic),
+        Presence::Required,
+    ),
 ];
 
 pub const MACRO_ROWS: [(&str, Sort, Presence); 3] = [
@@ -105,7 +148,11 @@ pub const MACRO_ROWS: [(&str, Sort, Presence); 3] = [
 pub const SYNTAX_ROWS: [(&str, Sort, Presence); 3] = [
     (labels::KIND, Sort::Kind, Presence::Required),
     (labels::SOURCE, Sort::Text, Presence::Required),
-    (labels::LOCATION, Sort::Object(Shape::Location), Presence::Optional),
+    (
+        labels::LOCATION,
+        Sort::Object(Shape::Location),
+        Presence::Optional,
+    ),
 ];
 
 pub const LOCATION_ROWS: [(&str, Sort, Presence); 5] = [
@@ -119,15 +166,27 @@ pub const LOCATION_ROWS: [(&str, Sort, Presence); 5] = [
 pub const DIAGNOSTIC_ROWS: [(&str, Sort, Presence); 6] = [
     (labels::MESSAGE, Sort::Text, Presence::Required),
     (labels::SEVERITY, Sort::Severity, Presence::Required),
-    (labels::POSITION, Sort::Object(Shape::Position), Presence::Required),
+    (
+        labels::POSITION,
+        Sort::Object(Shape::Position),
+        Presence::Required,
+    ),
     (labels::HIGHLIGHTS, Sort::Array, Presence::Required),
-    (labels::NOTES, Sort::Objects(Shape::Note), Presence::Required),
+    (
+        labels::NOTES,
+        Sort::Objects(Shape::Note),
+        Presence::Required,
+    ),
     (labels::FIX_ITS, Sort::Array, Presence::Required),
 ];
 
 pub const NOTE_ROWS: [(&str, Sort, Presence); 2] = [
     (labels::MESSAGE, Sort::Text, Presence::Required),
-    (labels::POSITION, Sort::Object(Shape::Position), Presence::Required),
+    (
+        labels::POSITION,
+        Sort::Object(Shape::Position),
+        Presence::Required,
+    ),
 ];
 
 pub const POSITION_ROWS: [(&str, Sort, Presence); 2] = [

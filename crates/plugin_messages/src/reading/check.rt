@@ -4,12 +4,22 @@ ghost use Rattle.serde_json.specs.View.{view};
 ghost use Rattle.plugin_messages.specs.Answers.{Answers};
 ghost use Rattle.plugin_messages.specs.Fields.{present};
 ghost use Rattle.plugin_messages.specs.Checked.{passed, all_checked, value_checked, absent_checked, found_checked, rows_checked, object_checked};
+ghost use Rattle.plugin_messages.specs.Rows.{rows_of};
 
 use crate::message::{Reason, Refusal};
-use crate::reading::taken::{bad_field, kind_in, offset_in, present, record, role_in, severity_in, small_in, version_in};
-use crate::table::{Presence, Shape, Sort, rows_of};
+use crate::reading::fields::{
+    bad_field, kind_in, offset_in, present, record, role_in, severity_in, small_in, version_in,
+};
+use crate::table::{DEEPEST, Presence, Shape, Sort, rows_of};
 use serde_json::Value;
 use std::alloc::Global;
+
+/// The first reason against the labels of a case.
+pub(crate) fn check(alloc: Global, shape: Shape, value: &Value) -> Result<(), Refusal<Reason>>
+    ensures { Answers result (rows_checked (object_checked DEEPEST) (rows_of shape) (view value.now)) }
+{
+    check_rows(alloc, DEEPEST, rows_of(shape), value)
+}
 
 fn passed(alloc: Global, label: &str, holds: bool) -> Result<(), Refusal<Reason>>
     ensures { Answers result (passed label.now holds) }

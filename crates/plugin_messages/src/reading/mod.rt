@@ -6,7 +6,6 @@ mod fields;
 mod host;
 mod parts;
 mod plugin;
-mod taken;
 
 pub use host::read_host;
 pub use plugin::read_plugin;

@@ -5,7 +5,6 @@ ghost use Rattle.plugin_messages.specs.RequestBytes.{host_of, host_payload_of};
 ghost use Rattle.plugin_messages.specs.ReplyBytes.{plugin_payload_of};
 
 mod fields;
-mod object;
 mod reply;
 mod request;
 

@@ -34,7 +34,7 @@ check_rows-returns-in_err-check_row t c =
     let more : c.rows.row-index < length c.args.rows.now = omega arith in
     let p = err_from_is_err_and c.from_residual.result c.from_residual.ensures.1 in
     rw (p.1, p.2) (
-      stops_at (λ row. found_checked (object_checked c.args.depth) row (present row.0 (view c.args.value.now))) (λ row. (row.0.now, row.1, row.2)) c.args.rows.now c.rows.row-index _ _ c.in_err-check_row.field-0.0 more refl c.in_err-check_row.ensures c.rows.invariant
+    stops_at (λ row. found_checked (object_checked c.args.depth) row (present row.0 (view c.args.value.now))) (λ row. (row.0.now, row.1, row.2)) c.args.rows.now c.rows.row-index _ _ c.in_err-check_row.field-0.0 more refl c.in_err-check_row.ensures c.rows.invariant
     )
 
 pub check_rows-returns : goal.check_rows-returns
@@ -46,4 +46,4 @@ pub check_value-returns-in-Some : goal.check_value-returns-in-Some
 unfolding value_checked
 check_value-returns-in-Some t c =
     rw c.in-Objects.is (objects_checked (object_checked c.args.depth c.in-Objects.shape c.args.label.now) c.args.label.now (view c.args.value.now) c.in-Some.items.now.items c.check_items.result (sym c.in-Some.ensures)
-      (subst (λ (l : List Value). Answers c.check_items.result (all_checked (object_checked c.args.depth c.in-Objects.shape c.args.label.now) (map view l))) c.deref.ensures.value c.check_items.ensures))
+    (subst (λ (l : List Value). Answers c.check_items.result (all_checked (object_checked c.args.depth c.in-Objects.shape c.args.label.now) (map view l))) c.deref.ensures.value c.check_items.ensures))

@@ -4,7 +4,7 @@ use Rattle.serde_json.specs.Data.{no_members}
 use Rattle.serde_json.specs.View.{view, members_view}
 use Rattle.plugin_messages.specs.Rows.{rows_of}
 use Rattle.plugin_messages.specs.Written.{with_fields, labelled}
-use Rattle.plugin_messages.proofs.writing.object.object.Given as goal
+use Rattle.plugin_messages.proofs.writing.fields.object.Given as goal
 
 -- the values that are left complete the object
 abbrev pub invariant-values : goal.invariant-values
