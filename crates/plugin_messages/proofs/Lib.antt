@@ -11,3 +11,4 @@ pub mod Passing
 pub mod PartsPassing
 pub mod ReadParts
 pub mod RoundTrip
+pub mod Format

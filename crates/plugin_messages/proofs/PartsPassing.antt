@@ -60,9 +60,22 @@ freestanding_passing t r d s wt wd ws rs = (macro_passing 1 2 t wt, (role_passin
 pub attached_passing : (t : MacroRef) (r : Role) (d : List ℕ) (a b : Syntax) (p e c : Option Syntax) → IsMacroWritable t → IsUtf8 d → AreAttachedWritable a b p e c → ArePartsInRange (Attached a b p e c)
     → ArePassing 2 3 (rows_of shape.Attached) (expand_values t r d (Attached a b p e c))
 unfolding rows_of
-attached_passing t r d a b p e c wt wd w i =
-    (macro_passing 1 2 t wt, (role_passing 2 3 r, (text_passing 2 3 d wd, (syntax_passing 0 1 a w.attribute_part i.0, (syntax_passing 0 1 b w.decl_part i.1,
-    (syntax_if 0 1 PARENT_DECL_SYNTAX.now p w.parent_part i.2, (syntax_if 0 1 EXTENDED_TYPE_SYNTAX.now e w.extended_part i.3, (syntax_if 0 1 CONFORMANCE_LIST_SYNTAX.now c w.conformances_part i.4, tt))))))))
+attached_passing t r d a b p e c wt wd w i = (
+  macro_passing 1 2 t wt,
+  (
+    role_passing 2 3 r,
+    (
+      text_passing 2 3 d wd,
+      (
+        syntax_passing 0 1 a w.attribute_part i.0,
+        (
+          syntax_passing 0 1 b w.decl_part i.1,
+          (syntax_if 0 1 PARENT_DECL_SYNTAX.now p w.parent_part i.2, (syntax_if 0 1 EXTENDED_TYPE_SYNTAX.now e w.extended_part i.3, (syntax_if 0 1 CONFORMANCE_LIST_SYNTAX.now c w.conformances_part i.4, tt))),
+        ),
+      ),
+    ),
+  ),
+)
 
 pub load_passing : (path name : List ℕ) → IsUtf8 path → IsUtf8 name → ArePassing 0 3 (rows_of shape.Load) (Some (string path) ∷ Some (string name) ∷ [])
 unfolding rows_of

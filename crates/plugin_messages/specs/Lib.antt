@@ -14,3 +14,4 @@ pub mod RequestBytes
 pub mod ReplyBytes
 pub mod RoundTrip
 pub mod Spelling
+pub mod Format
