@@ -18,7 +18,7 @@ use Rattle.plugin_messages.specs.declared.message.Note.{Note}
 use Rattle.plugin_messages.specs.Writable.{WhereSome}
 use Rattle.plugin_messages.specs.declared.table.Shape.{Shape}
 use Rattle.plugin_messages.specs.Rows.{rows_of}
-use Rattle.plugin_messages.specs.Written.{object_of, object_data, array_of, labelled, location_values, location_data, syntax_values, syntax_data, macro_data, capability_data, position_data, note_data, diagnostic_data, case_data}
+use Rattle.plugin_messages.specs.Written.{object_data, array_of, labelled, location_data, syntax_data, macro_data, capability_data, position_data, note_data, diagnostic_data, case_data}
 use Rattle.plugin_messages.specs.RequestBytes.{parts_values, parts_shape, host_data}
 use Rattle.plugin_messages.specs.ReplyBytes.{plugin_data}
 use Rattle.plugin_messages.proofs.Members.{EachMember, each_with_fields}

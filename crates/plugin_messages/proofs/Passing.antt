@@ -1,27 +1,25 @@
 -- What is written passes the check that it is read under, and its text is read as what it is.
-use Rattle.std.proofs.Common.{◌≡◌, ℕ, suc, ◌<◌, ◌^◌, ℤ, pos, negsuc, List, [], ◌∷◌, map, Option, Some, None, option_map, option_and_then, is_some, Bool, true, nat_lt, if◌then◌else◌, Result, Ok, refl, ap, ◌∙◌, arith}
+use Rattle.std.proofs.Common.{◌≡◌, ℕ, suc, ◌<◌, ◌^◌, ℤ, pos, negsuc, List, [], ◌∷◌, map, Option, Some, None, option_map, option_and_then, Bool, true, nat_lt, if◌then◌else◌, Ok, refl, ap, ◌∙◌, arith}
 use Rattle.std.proofs.lemmas.Bool.Decides.{Decides-ltb}
 use Rattle.std.specs.Str.{IsUtf8}
 use Rattle.std.specs.List.{All}
 use Rattle.json.proofs.Printed.Utf8.{are_ascii, IsUtf8-are_ascii}
 use Rattle.serde_json.specs.Data.{Data, Members, no_members, string, number, boolean, array, object, no_items, unsigned}
-use Rattle.serde_json.specs.Find.{get_member, of_integer}
-use Rattle.serde_json.specs.View.{items_of}
+use Rattle.serde_json.specs.Find.{of_integer}
 use Rattle.unique_names.specs.declared.role.Role.{Role}
 use Rattle.unique_names.specs.declared.role.Role.TheVariants as role
-use Rattle.unique_names.specs.Roles.{text_of, role_of}
+use Rattle.unique_names.specs.Roles.{text_of}
 use Rattle.plugin_messages.specs.declared.request.SyntaxKind.{SyntaxKind}
 use Rattle.plugin_messages.specs.declared.request.SyntaxKind.TheVariants as kind
 use Rattle.plugin_messages.specs.declared.message.Severity.{Severity}
 use Rattle.plugin_messages.specs.declared.message.Severity.TheVariants as severity
-use Rattle.plugin_messages.specs.declared.message.Reason.{Reason}
 use Rattle.plugin_messages.specs.declared.table.Sort.{Sort}
 use Rattle.plugin_messages.specs.declared.table.Sort.TheVariants as sort
 use Rattle.plugin_messages.specs.declared.table.Presence.TheVariants.{Optional}
 use Rattle.plugin_messages.specs.declared.table.Shape.{Shape}
 use Rattle.plugin_messages.specs.Answers.{and_then}
-use Rattle.plugin_messages.specs.Tables.{kind_text, kind_of, severity_text, severity_of}
-use Rattle.plugin_messages.specs.Fields.{present, unless_null, whole_below, version_in, role_in, kind_in, severity_in, list_of}
+use Rattle.plugin_messages.specs.Tables.{kind_text, severity_text}
+use Rattle.plugin_messages.specs.Fields.{present, unless_null, whole_below, version_in, role_in, kind_in, severity_in}
 use Rattle.plugin_messages.specs.Rows.{Row, rows_of}
 use Rattle.plugin_messages.specs.Checked.{Checked, absent_checked, found_checked, value_checked, all_checked, rows_checked, object_checked}
 use Rattle.plugin_messages.specs.Writable.{WhereSome}

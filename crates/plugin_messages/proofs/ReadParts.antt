@@ -1,12 +1,11 @@
 -- What is written at a label is taken again.
-use Rattle.std.proofs.Common.{◌≡◌, ℕ, suc, ◌<◌, ◌^◌, ℤ, pos, List, [], ◌∷◌, map, Option, Some, None, option_map, option_and_then, Bool, true, refl, ap, ◌∙◌, arith}
+use Rattle.std.proofs.Common.{◌≡◌, ℕ, suc, ◌<◌, ◌^◌, ℤ, pos, List, [], ◌∷◌, map, Option, Some, None, option_map, option_and_then, true, refl, ap, ◌∙◌, arith}
 use Rattle.std.specs.List.{All}
 use Rattle.serde_json.specs.Data.{Data, string, number, unsigned, no_items, no_members}
 use Rattle.serde_json.specs.Find.{as_str, as_array, of_integer}
 use Rattle.serde_json.specs.View.{items_of}
 use Rattle.plugin_messages.specs.declared.request.Location.{Location}
 use Rattle.plugin_messages.specs.declared.request.Syntax.{Syntax}
-use Rattle.plugin_messages.specs.declared.request.SyntaxKind.{SyntaxKind}
 use Rattle.plugin_messages.specs.declared.request.SyntaxKind.TheVariants.{Declaration}
 use Rattle.plugin_messages.specs.declared.request.MacroRef.{MacroRef}
 use Rattle.plugin_messages.specs.declared.message.Severity.TheVariants.{Error}
@@ -24,7 +23,7 @@ use Rattle.plugin_messages.specs.Diagnostics.{note_of, diagnostic_of, diagnostic
 use Rattle.plugin_messages.specs.HostOf.{capability_of}
 use Rattle.plugin_messages.specs.Writable.{WhereSome, IsNoteWritable, IsDiagnosticWritable}
 use Rattle.plugin_messages.specs.RoundTrip.{IsLocationInRange, IsSyntaxInRange, IsVersion}
-use Rattle.plugin_messages.specs.Written.{labelled, object_data, array_of, location_values, location_data, syntax_values, syntax_data, macro_data, version_data, capability_data, position_data, note_values, note_data, diagnostic_values, diagnostic_data}
+use Rattle.plugin_messages.specs.Written.{labelled, object_data, array_of, location_values, location_data, syntax_values, syntax_data, macro_data, version_data, capability_data, note_values, note_data, diagnostic_values, diagnostic_data}
 use Rattle.plugin_messages.proofs.Checks.{list_of_items_of}
 use Rattle.plugin_messages.proofs.Lookup.{lookup, chosen, member_found}
 use Rattle.plugin_messages.proofs.Passing.{within, kind_read, severity_read, version_read, version_there}

@@ -1,5 +1,5 @@
 -- What is written of a message is read again as the message.
-use Rattle.std.proofs.Common.{◌≡◌, Bool, true, false, ℕ, suc, ◌≤◌, List, [], ◌∷◌, Option, Some, None, option_map, Result, Ok, refl, ap, ◌∙◌, arith}
+use Rattle.std.proofs.Common.{◌≡◌, Bool, true, false, ℕ, suc, ◌≤◌, List, [], ◌∷◌, Option, Some, option_map, Result, Ok, refl, ◌∙◌, arith}
 use Rattle.std.specs.List.{All}
 use Rattle.json.proofs.Printed.Utf8.{are_ascii, IsUtf8-are_ascii}
 use Rattle.serde_json.specs.Data.{Data, string, boolean}
@@ -27,7 +27,7 @@ use Rattle.plugin_messages.specs.RequestParts.{syntax_of, freestanding_of, attac
 use Rattle.plugin_messages.specs.HostOf.{json_of, case_of, message_from, expand_of, load_of, host_case, host_message_of}
 use Rattle.plugin_messages.specs.PluginOf.{reply_of, loading_of, plugin_case, plugin_message_of}
 use Rattle.plugin_messages.specs.Writable.{IsDiagnosticWritable}
-use Rattle.plugin_messages.specs.Written.{object_data, array_of, macro_values, syntax_values, syntax_data, version_data, diagnostic_data, case_data}
+use Rattle.plugin_messages.specs.Written.{object_data, array_of, macro_values, syntax_values, syntax_data, diagnostic_data, case_data}
 use Rattle.plugin_messages.specs.ReplyBytes.{reply_data, loading_data, plugin_data, plugin_payload_of}
 use Rattle.plugin_messages.specs.RequestBytes.{expand_values, expand_data, load_data, host_data, host_payload_of}
 use Rattle.plugin_messages.proofs.Plain.{IsPlain, plain_object, text_read}

@@ -1,8 +1,7 @@
 -- this project's own, over RFC 8259: the first reason against an object of a message, in the order of its rows, inward before the next row.
-use Rattle.std.specs.Prelude.{ℕ, zero, suc, ◌^◌, List, [], ◌∷◌, Bool, true, false, is_some, Option, Some, None, option_and_then, Result, Ok, Err, ⊤}
+use Rattle.std.specs.Prelude.{ℕ, zero, suc, ◌^◌, List, [], ◌∷◌, Bool, true, false, is_some, Option, Some, None, Result, Ok, Err, ⊤}
 use Rattle.serde_json.specs.Data.{Data}
-use Rattle.serde_json.specs.Find.{as_number, as_i64, as_str, as_bool, as_array}
-use Rattle.unique_names.specs.Roles.{role_of}
+use Rattle.serde_json.specs.Find.{as_str, as_bool, as_array}
 use Rattle.plugin_messages.specs.declared.message.Reason.{Reason}
 use Rattle.plugin_messages.specs.declared.message.Reason.TheVariants.{BadField}
 use Rattle.plugin_messages.specs.declared.table.Sort.{Sort}
@@ -12,7 +11,6 @@ use Rattle.plugin_messages.specs.declared.table.Presence.TheVariants.{Required, 
 use Rattle.plugin_messages.specs.declared.table.Shape.{Shape}
 use Rattle.plugin_messages.specs.declared.table.TheConstants.{DEEPEST}
 use Rattle.plugin_messages.specs.Answers.{and_then}
-use Rattle.plugin_messages.specs.Tables.{kind_of, severity_of}
 use Rattle.plugin_messages.specs.Fields.{present, or_bad, as_record, whole_below, list_of, version_in, role_in, kind_in, severity_in}
 use Rattle.plugin_messages.specs.Rows.{Row, rows_of}
 

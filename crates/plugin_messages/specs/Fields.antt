@@ -1,7 +1,7 @@
 -- this project's own, over RFC 8259: a field of an object, by its label. Null counts as absent.
 use Rattle.std.specs.Prelude.{ℕ, ℤ, List, [], ◌∷◌, Option, Some, None, option_and_then, Result, Ok, Err, nat_lt, if◌then◌else◌}
 use Rattle.serde_json.specs.Data.{Data, null, boolean, number, string, array, object, Items, no_items, item}
-use Rattle.serde_json.specs.Find.{get, as_number, as_u64, as_i64, as_str, as_array}
+use Rattle.serde_json.specs.Find.{get, as_number, as_u64, as_i64, as_str}
 use Rattle.unique_names.specs.declared.role.Role.{Role}
 use Rattle.unique_names.specs.Roles.{role_of}
 use Rattle.plugin_messages.specs.declared.request.SyntaxKind.{SyntaxKind}

@@ -2,7 +2,17 @@
 ghost use Rattle.std.specs.Prelude.{◌≡◌, map};
 ghost use Rattle.plugin_messages.specs.Rows.{rows_of};
 
-use crate::labels;
+use crate::labels::{
+    ATTRIBUTE_SYNTAX, CAPABILITY, COLUMN, CONFORMANCE_LIST_SYNTAX, DECL_SYNTAX, DIAGNOSTICS,
+    DISCRIMINATOR, EXPANDED_SOURCE, EXTENDED_TYPE_SYNTAX, FILE_ID, FILE_NAME, FIX_ITS, HIGHLIGHTS,
+    KIND, LIBRARY_PATH, LINE, LOADED, LOCATION, MACRO, MACRO_ROLE, MESSAGE, MODULE_NAME, NAME,
+    NOTES, OFFSET, PARENT_DECL_SYNTAX, POSITION, PROTOCOL_VERSION, SEVERITY, SOURCE, SYNTAX,
+    TYPE_NAME,
+};
+use crate::table::Presence::{Optional, Required};
+use crate::table::Sort::{
+    Array, Flag, Kind, Object, Objects, Offset, Role, Severity, Small, Text, Version,
+};
 
 /// What stands at a label.
 #[derive(Clone, Copy, Debug, PartialEq, Eq)]
@@ -54,164 +64,101 @@ pub enum Shape {
 /// How many objects stand in one another at most in the labels of a case: a diagnostic, a note and its position.
 pub const DEEPEST: usize = 3;
 
-pub const GREETING_ROWS: [(&str, Sort, Presence); 1] = [(
-    labels::CAPABILITY,
-    Sort::Object(Shape::Capability),
-    Presence::Required,
-)];
+/// A label, what stands there, and whether it has to.
+pub type Row = (&'static str, Sort, Presence);
 
-pub const CAPABILITY_ROWS: [(&str, Sort, Presence); 1] = [(
-    labels::PROTOCOL_VERSION,
-    Sort::Version,
-    Presence::Required,
-)];
+// The rows of each object, in the order in which they are read.
+pub const GREETING_ROWS: &[Row] = &[(CAPABILITY, Object(Shape::Capability), Required)];
 
-pub const FREESTANDING_ROWS: [(&str, Sort, Presence); 4] = [
-    (
-        labels::MACRO,
-        Sort::Object(Shape::Macro),
-        Presence::Required,
-    ),
-    (labels::MACRO_ROLE, Sort::Role, Presence::Required),
-    (labels::DISCRIMINATOR, Sort::Text, Presence::Required),
-    (
-        labels::SYNTAX,
-        Sort::Object(Shape::Syntax),
-        Presence::Required,
-    ),
+pub const CAPABILITY_ROWS: &[Row] = &[(PROTOCOL_VERSION, Version, Required)];
+
+pub const FREESTANDING_ROWS: &[Row] = &[
+    (MACRO, Object(Shape::Macro), Required),
+    (MACRO_ROLE, Role, Required),
+    (DISCRIMINATOR, Text, Required),
+    (SYNTAX, Object(Shape::Syntax), Required),
 ];
 
-pub const ATTACHED_ROWS: [(&str, Sort, Presence); 8] = [
-    (
-        labels::MACRO,
-        Sort::Object(Shape::Macro),
-        Presence::Required,
-    ),
-    (labels::MACRO_ROLE, Sort::Role, Presence::Required),
-    (labels::DISCRIMINATOR, Sort::Text, Presence::Required),
-    (
-        labels::ATTRIBUTE_SYNTAX,
-        Sort::Object(Shape::Syntax),
-        Presence::Required,
-    ),
-    (
-        labels::DECL_SYNTAX,
-        Sort::Object(Shape::Syntax),
-        Presence::Required,
-    ),
-    (
-        labels::PARENT_DECL_SYNTAX,
-        Sort::Object(Shape::Syntax),
-        Presence::Optional,
-    ),
-    (
-        labels::EXTENDED_TYPE_SYNTAX,
-        Sort::Object(Shape::Syntax),
-        Presence::Optional,
-    ),
-    (
-        labels::CONFORMANCE_LIST_SYNTAX,
-        Sort::Object(Shape::Syntax),
-        Presence::Optional,
-    ),
+pub const ATTACHED_ROWS: &[Row] = &[
+    (MACRO, Object(Shape::Macro), Required),
+    (MACRO_ROLE, Role, Required),
+    (DISCRIMINATOR, Text, Required),
+    (ATTRIBUTE_SYNTAX, Object(Shape::Syntax), Required),
+    (DECL_SYNTAX, Object(Shape::Syntax), Required),
+    (PARENT_DECL_SYNTAX, Object(Shape::Syntax), Optional),
+    (EXTENDED_TYPE_SYNTAX, Object(Shape::Syntax), Optional),
+    (CONFORMANCE_LIST_SYNTAX, Object(Shape::Syntax), Optional),
 ];
 
-pub const LOAD_ROWS: [(&str, Sort, Presence); 2] = [
-    (labels::LIBRARY_PATH, Sort::Text, Presence::Required),
-    (labels::MODULE_NAME, Sort::Text, Presence::Required),
+pub const LOAD_ROWS: &[Row] = &[
+    (LIBRARY_PATH, Text, Required),
+    (MODULE_NAME, Text, Required),
 ];
 
-pub const REPLY_ROWS: [(&str, Sort, Presence); 2] = [
-    (labels::EXPANDED_SOURCE, Sort::Text, Presence::Optional),
-    (
-        labels::DIAGNOSTICS,
-        Sort::Objects(Shape::Diagnostic),
-        Presence::Required,
-    ),
+pub const REPLY_ROWS: &[Row] = &[
+    (EXPANDED_SOURCE, Text, Optional),
+    (DIAGNOSTICS, Objects(Shape::Diagnostic), Required),
 ];
 
-pub const LOADING_ROWS: [(&str, Sort, Presence); 2] = [
-    (labels::LOADED, Sort::Flag, Presence::Required),
-    (
-        labels::DIAGNOSTICS,
-        Sort::Objects(Shape::Diagnostic),
-        Presence::Required,
-    ),
+pub const LOADING_ROWS: &[Row] = &[
+    (LOADED, Flag, Required),
+    (DIAGNOSTICS, Objects(Shape::Diagnostic), Required),
 ];
 
-pub const MACRO_ROWS: [(&str, Sort, Presence); 3] = [
-    (labels::MODULE_NAME, Sort::Text, Presence::Required),
-    (labels::TYPE_NAME, Sort::Text, Presence::Required),
-    (labels::NAME, Sort::Text, Presence::Required),
+pub const MACRO_ROWS: &[Row] = &[
+    (MODULE_NAME, Text, Required),
+    (TYPE_NAME, Text, Required),
+    (NAME, Text, Required),
 ];
 
-pub const SYNTAX_ROWS: [(&str, Sort, Presence); 3] = [
-    (labels::KIND, Sort::Kind, Presence::Required),
-    (labels::SOURCE, Sort::Text, Presence::Required),
-    (
-        labels::LOCATION,
-        Sort::Object(Shape::Location),
-        Presence::Optional,
-    ),
+pub const SYNTAX_ROWS: &[Row] = &[
+    (KIND, Kind, Required),
+    (SOURCE, Text, Required),
+    (LOCATION, Object(Shape::Location), Optional),
 ];
 
-pub const LOCATION_ROWS: [(&str, Sort, Presence); 5] = [
-    (labels::FILE_ID, Sort::Text, Presence::Required),
-    (labels::FILE_NAME, Sort::Text, Presence::Required),
-    (labels::OFFSET, Sort::Small, Presence::Required),
-    (labels::LINE, Sort::Small, Presence::Required),
-    (labels::COLUMN, Sort::Small, Presence::Required),
+pub const LOCATION_ROWS: &[Row] = &[
+    (FILE_ID, Text, Required),
+    (FILE_NAME, Text, Required),
+    (OFFSET, Small, Required),
+    (LINE, Small, Required),
+    (COLUMN, Small, Required),
 ];
 
-pub const DIAGNOSTIC_ROWS: [(&str, Sort, Presence); 6] = [
-    (labels::MESSAGE, Sort::Text, Presence::Required),
-    (labels::SEVERITY, Sort::Severity, Presence::Required),
-    (
-        labels::POSITION,
-        Sort::Object(Shape::Position),
-        Presence::Required,
-    ),
-    (labels::HIGHLIGHTS, Sort::Array, Presence::Required),
-    (
-        labels::NOTES,
-        Sort::Objects(Shape::Note),
-        Presence::Required,
-    ),
-    (labels::FIX_ITS, Sort::Array, Presence::Required),
+pub const DIAGNOSTIC_ROWS: &[Row] = &[
+    (MESSAGE, Text, Required),
+    (SEVERITY, Severity, Required),
+    (POSITION, Object(Shape::Position), Required),
+    (HIGHLIGHTS, Array, Required),
+    (NOTES, Objects(Shape::Note), Required),
+    (FIX_ITS, Array, Required),
 ];
 
-pub const NOTE_ROWS: [(&str, Sort, Presence); 2] = [
-    (labels::MESSAGE, Sort::Text, Presence::Required),
-    (
-        labels::POSITION,
-        Sort::Object(Shape::Position),
-        Presence::Required,
-    ),
+pub const NOTE_ROWS: &[Row] = &[
+    (MESSAGE, Text, Required),
+    (POSITION, Object(Shape::Position), Required),
 ];
 
-pub const POSITION_ROWS: [(&str, Sort, Presence); 2] = [
-    (labels::FILE_NAME, Sort::Text, Presence::Required),
-    (labels::OFFSET, Sort::Offset, Presence::Required),
-];
+pub const POSITION_ROWS: &[Row] = &[(FILE_NAME, Text, Required), (OFFSET, Offset, Required)];
 
 /// The rows of an object, in the order in which they are read.
 #[tactic(auto, unfolding(crate::specs::Rows::rows_of))]
-pub(crate) fn rows_of(shape: Shape) -> &'static [(&'static str, Sort, Presence)]
+pub(crate) fn rows_of(shape: Shape) -> &'static [Row]
     ensures { map (λ row. (row.0.now, row.1, row.2)) result.now ≡ rows_of shape }
 {
     match shape {
-        Shape::Greeting => &GREETING_ROWS,
-        Shape::Capability => &CAPABILITY_ROWS,
-        Shape::Freestanding => &FREESTANDING_ROWS,
-        Shape::Attached => &ATTACHED_ROWS,
-        Shape::Load => &LOAD_ROWS,
-        Shape::Reply => &REPLY_ROWS,
-        Shape::Loading => &LOADING_ROWS,
-        Shape::Macro => &MACRO_ROWS,
-        Shape::Syntax => &SYNTAX_ROWS,
-        Shape::Location => &LOCATION_ROWS,
-        Shape::Diagnostic => &DIAGNOSTIC_ROWS,
-        Shape::Note => &NOTE_ROWS,
-        Shape::Position => &POSITION_ROWS,
+        Shape::Greeting => GREETING_ROWS,
+        Shape::Capability => CAPABILITY_ROWS,
+        Shape::Freestanding => FREESTANDING_ROWS,
+        Shape::Attached => ATTACHED_ROWS,
+        Shape::Load => LOAD_ROWS,
+        Shape::Reply => REPLY_ROWS,
+        Shape::Loading => LOADING_ROWS,
+        Shape::Macro => MACRO_ROWS,
+        Shape::Syntax => SYNTAX_ROWS,
+        Shape::Location => LOCATION_ROWS,
+        Shape::Diagnostic => DIAGNOSTIC_ROWS,
+        Shape::Note => NOTE_ROWS,
+        Shape::Position => POSITION_ROWS,
     }
 }

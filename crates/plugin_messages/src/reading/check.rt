@@ -10,7 +10,7 @@ use crate::message::{Reason, Refusal};
 use crate::reading::fields::{
     bad_field, kind_in, offset_in, present, record, role_in, severity_in, small_in, version_in,
 };
-use crate::table::{DEEPEST, Presence, Shape, Sort, rows_of};
+use crate::table::{DEEPEST, Presence, Row, Shape, Sort, rows_of};
 use serde_json::Value;
 use std::alloc::Global;
 
@@ -100,7 +100,7 @@ fn check_object(
 pub(crate) fn check_rows(
     alloc: Global,
     depth: usize,
-    rows: &[(&str, Sort, Presence)],
+    rows: &[Row],
     value: &Value,
 ) -> Result<(), Refusal<Reason>>
     ensures { Answers result (rows_checked (object_checked depth) (map (λ row. (row.0.now, row.1, row.2)) rows.now) (view value.now)) }

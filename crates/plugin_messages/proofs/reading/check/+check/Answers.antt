@@ -1,4 +1,4 @@
-use Rattle.std.proofs.Common.{◌<◌, ◌≤◌, length, arith, refl, sym, subst, map, List}
+use Rattle.std.proofs.Common.{◌<◌, length, arith, refl, sym, subst, map, List}
 use Rattle.serde_json.specs.declared.value.Value.{Value}
 use Rattle.plugin_messages.specs.Answers.{Answers}
 use Rattle.std.proofs.lemmas.Result.{err_from_is_err_and}
