@@ -1,5 +1,5 @@
 -- What was asked keeps the promises of processes, starts and stops.
-use Rattle.std.proofs.Common.{◌≡◌, ℕ, Option, Some, None, option_map, List, [], ◌∷◌, refl, sym, ap, ◌∙◌, subst, append-nil, le_refl}
+use Rattle.std.proofs.Common.{◌≡◌, ℕ, Option, Some, None, option_map, Result, Ok, Err, List, [], ◌∷◌, refl, sym, ap, ◌∙◌, subst, append-nil, le_refl}
 use Rattle.swift_base.specs.Outside.{StarterSeen, Commands, TakesLink, then_started, then_failed}
 use Rattle.swift_base.specs.declared.plugins.Plugin.{Plugin}
 use Rattle.expand_top.specs.Answer.{Output}
@@ -8,6 +8,7 @@ use Rattle.expand_top.specs.Promises.{site_in, OfSource, asked_keys, AskedOnce, 
 use Rattle.expand_top.specs.Run.{LinkSeen, Asking, NothingAsked, IsProcess, IsFailedStart, IsAsked, of_process, not_started, IsAskedFor, IsAskedAt, IsExpansionOf, IsExpansion}
 use Rattle.expand_top.specs.Site.{KeySteps, plugin_for, asked_at, key_of, request_of, sent_for}
 use Rattle.expand_top.specs.Source.{Form}
+use Rattle.expand_top.specs.declared.fault.TextFault.{TextFault}
 use Rattle.expand_top.specs.Starts.{whole_of, GaveLinks, EachPair, IsCommandOf, IsCommandFor, then_commands, StartsServe, Starts, StopsHaveCause, FailedBetween, FailedStartsHaveCause}
 use Rattle.expand_top.specs.declared.line.MacroUse.{MacroUse}
 use Rattle.expand_top.specs.declared.line.Declaration.{Declaration}
@@ -22,10 +23,11 @@ use Rattle.plugin_messages.specs.declared.message.Outcome.{Outcome}
 abbrev WasAsked : List ℕ → List Plugin → Asking → List ℕ → Site → Type 0
 WasAsked name plugins asking text place = (o : Option Outcome) × IsAskedAt name plugins text place asking o
 
-in_form : (name : List ℕ) (plugins : List Plugin) (text : List ℕ) (form : Option Form) (asking : Asking) (output : Output)
+in_form : (name : List ℕ) (plugins : List Plugin) (text : List ℕ) (form : Result (Option Form) TextFault) (asking : Asking) (output : Output)
     → IsExpansionOf name plugins text form asking output → WasAsked name plugins asking text (site_in text plugins form)
-in_form name plugins text None asking output is = (None, is.0)
-in_form name plugins text (Some form) asking output is = (is.0, is.1)
+in_form name plugins text (Err fault) asking output is = (None, is.0)
+in_form name plugins text (Ok None) asking output is = (None, is.0)
+in_form name plugins text (Ok (Some form)) asking output is = (is.0, is.1)
 
 in_source : (name : List ℕ) (plugins : List Plugin) (source : SourceRead) (asking : Asking) (output : Output)
     → IsExpansion name plugins source asking output → OfSource plugins source (WasAsked name plugins asking)

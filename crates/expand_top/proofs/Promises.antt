@@ -1,5 +1,5 @@
 -- The promises of a run, from what one run does.
-use Rattle.std.proofs.Common.{◌≡◌, ◌⊎◌, inl, inr, ℕ, ◌<◌, ◌++◌, Option, Some, None, List, ◌∷◌, take, drop, codes, refl, sym, ap, ◌∙◌, append_assoc, arith}
+use Rattle.std.proofs.Common.{◌≡◌, ◌⊎◌, inl, inr, ℕ, ◌<◌, ◌++◌, Option, Some, None, Result, Ok, Err, List, ◌∷◌, take, drop, codes, refl, sym, ap, ◌∙◌, append_assoc, arith}
 use Rattle.swift_base.specs.Told.{then_bytes, Rose}
 use Rattle.swift_base.specs.Outside.{SinkSeen, FilesSeen}
 use Rattle.swift_base.specs.declared.plugins.Plugin.{Plugin}
@@ -8,6 +8,7 @@ use Rattle.expand_top.specs.Promises.{site_in, KeepsOutside, KeepsBytes, StatusH
 use Rattle.expand_top.specs.Run.{Asking, IsExpansionOf, IsExpansion, ReadsSource, IsDelivered, whole, out_failed, err_failed, usage}
 use Rattle.expand_top.specs.Site.{site_of}
 use Rattle.expand_top.specs.Source.{Form}
+use Rattle.expand_top.specs.declared.fault.TextFault.{TextFault}
 use Rattle.expand_top.specs.declared.line.MacroUse.{MacroUse}
 use Rattle.expand_top.specs.declared.line.Declaration.{Declaration}
 use Rattle.plugin_messages.specs.declared.message.Outcome.{Outcome}
@@ -46,10 +47,11 @@ delivered_zero out out_after err err_after output status (whole to_out to_err) z
 delivered_zero out out_after err err_after output status (out_failed front same) zero = absurd (omega arith)
 delivered_zero out out_after err err_after output status (err_failed to_out front) zero = absurd (omega arith)
 
-kept_in : (name : List ℕ) (plugins : List Plugin) (text : List ℕ) (form : Option Form) (asking : Asking) (output : Output)
+kept_in : (name : List ℕ) (plugins : List Plugin) (text : List ℕ) (form : Result (Option Form) TextFault) (asking : Asking) (output : Output)
     → IsExpansionOf name plugins text form asking output → output.status ≡ 0 → KeepsOutside text (site_in text plugins form) output.out
-kept_in name plugins text None asking output is zero = zero_one output.status (ap (λ (w : Output). w.status) is.1) zero
-kept_in name plugins text (Some form) asking output is zero = site_kept name text (site_of text plugins form) is.0 output is.2 zero
+kept_in name plugins text (Err fault) asking output is zero = zero_one output.status (ap (λ (w : Output). w.status) is.1) zero
+kept_in name plugins text (Ok None) asking output is zero = zero_one output.status (ap (λ (w : Output). w.status) is.1) zero
+kept_in name plugins text (Ok (Some form)) asking output is zero = site_kept name text (site_of text plugins form) is.0 output is.2 zero
 
 pub keeps_bytes : (name : List ℕ) (plugins : List Plugin) (source : SourceRead) (asking : Asking) (output : Output)
     (out out_after err err_after : SinkSeen) (status : ℕ)
@@ -79,10 +81,11 @@ site_status name text (site.NoPlugin macro_use declaration) o output is = omega 
 site_status name text (site.Asks macro_use declaration) o output is =
     omega (arith, ap (λ (w : Output). w.status) is.2, outcome_status name text macro_use declaration o is.0)
 
-form_status : (name : List ℕ) (plugins : List Plugin) (text : List ℕ) (form : Option Form) (asking : Asking) (output : Output)
+form_status : (name : List ℕ) (plugins : List Plugin) (text : List ℕ) (form : Result (Option Form) TextFault) (asking : Asking) (output : Output)
     → IsExpansionOf name plugins text form asking output → output.status < 2
-form_status name plugins text None asking output is = omega (arith, ap (λ (w : Output). w.status) is.1)
-form_status name plugins text (Some form) asking output is = site_status name text (site_of text plugins form) is.0 output is.2
+form_status name plugins text (Err fault) asking output is = omega (arith, ap (λ (w : Output). w.status) is.1)
+form_status name plugins text (Ok None) asking output is = omega (arith, ap (λ (w : Output). w.status) is.1)
+form_status name plugins text (Ok (Some form)) asking output is = site_status name text (site_of text plugins form) is.0 output is.2
 
 -- its status is 0 or 1, or 3 where the source could not be read
 output_status : (name : List ℕ) (plugins : List Plugin) (source : SourceRead) (asking : Asking) (output : Output) (files files_after : FilesSeen)

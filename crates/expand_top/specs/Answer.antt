@@ -1,6 +1,8 @@
 -- What the expansion of a source answers. This project's own; the lines are those of compilers.
-use Rattle.std.specs.Prelude.{◌≡◌, ℕ, ◌<◌, ◌≤◌, ◌==◌, ◌||◌, nat_lt, if◌then◌else◌, Bool, false, Option, Some, None, option_and_then, List, [], ◌∷◌, ◌++◌, length, map, take, drop, slice_range, decimal, codes}
+use Rattle.std.specs.Prelude.{◌≡◌, ℕ, ◌<◌, ◌≤◌, ◌==◌, ◌||◌, nat_lt, if◌then◌else◌, Bool, false, Option, Some, None, Result, option_and_then, List, [], ◌∷◌, ◌++◌, length, map, take, drop, slice_range, decimal, codes}
 use Rattle.std.specs.List.{list_any}
+use Rattle.std.specs.Result.{result_ok}
+use Rattle.expand_top.specs.declared.fault.TextFault.{TextFault}
 use Rattle.swift_base.specs.Lines.{line_behind, column_behind}
 use Rattle.swift_lexer.specs.Trees.{Tree, leaf, nest}
 use Rattle.expand_top.specs.Elements.{spells}
@@ -88,8 +90,8 @@ expression_in text (tree ∷ trees) =
 -- What of a reply's text is put in the place of the use.
 pub data IsSplice (reply : List ℕ) : Option (List ℕ) → Type 0 where
   too_long : 4194304 < length reply → IsSplice reply None
-  read : (elements : Option (List Tree)) (splice : Option (List ℕ)) → length reply ≤ 4194304 → HasElements reply elements
-      → splice ≡ option_and_then (expression_in reply) elements → IsSplice reply splice
+  read : (elements : Result (List Tree) TextFault) (splice : Option (List ℕ)) → length reply ≤ 4194304 → HasElements reply elements
+      → splice ≡ option_and_then (expression_in reply) (result_ok elements) → IsSplice reply splice
 
 -- the same of a reply: one without a text or with a diagnostic isn't put in yet
 abbrev pub IsReplySplice : Option (List ℕ) → List Diagnostic → Option (List ℕ) → Type 0

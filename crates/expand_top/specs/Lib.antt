@@ -8,3 +8,4 @@ pub mod Run
 pub mod Site
 pub mod Source
 pub mod Starts
+pub mod Faults

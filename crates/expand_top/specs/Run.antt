@@ -1,9 +1,11 @@
 -- What one call of the program does. This project's own.
-use Rattle.std.specs.Prelude.{◌≡◌, ℕ, ◌<◌, ◌≤◌, ◌++◌, Bool, Option, Some, None, List, [], ◌∷◌, length, take, codes}
+use Rattle.std.specs.Prelude.{◌≡◌, ℕ, ◌<◌, ◌≤◌, ◌++◌, Bool, Option, Some, None, Result, Ok, Err, List, [], ◌∷◌, length, take, codes}
 use Rattle.swift_base.specs.Told.{prepend, then_bytes, then_name, Rose}
 use Rattle.swift_base.specs.Outside.{SourceSeen, SinkSeen, FilesSeen, StarterSeen, HasContent, TakesLink, then_started, then_failed}
 use Rattle.swift_base.specs.declared.plugins.Plugin.{Plugin}
-use Rattle.expand_top.specs.Answer.{Output, refuses, not_built, IsSiteOutput}
+use Rattle.expand_top.specs.Answer.{Output, refuses, refuses_at, not_built, IsSiteOutput}
+use Rattle.expand_top.specs.Faults.{fault_text, too_large}
+use Rattle.expand_top.specs.declared.fault.TextFault.{TextFault}
 use Rattle.expand_top.specs.Form.{text_at}
 use Rattle.expand_top.specs.Link.{StopHasCause, IsWritten, IsLinkOutcome, no_reply}
 use Rattle.expand_top.specs.Site.{KeySteps, site_of, plugin_for, key_of, request_of, sent_for}
@@ -128,9 +130,10 @@ abbrev pub IsExpansionAt : List ℕ → List Plugin → List ℕ → Site → As
 IsExpansionAt name plugins text site asking output =
     (o : Option Outcome) × IsAskedAt name plugins text site asking o × IsSiteOutput name text site o output
 
-abbrev pub IsExpansionOf : List ℕ → List Plugin → List ℕ → Option Form → Asking → Output → Type 0
-IsExpansionOf name plugins text None asking output = NothingAsked asking × (output ≡ refuses name 1 1 not_built)
-IsExpansionOf name plugins text (Some form) asking output = IsExpansionAt name plugins text (site_of text plugins form) asking output
+abbrev pub IsExpansionOf : List ℕ → List Plugin → List ℕ → Result (Option Form) TextFault → Asking → Output → Type 0
+IsExpansionOf name plugins text (Err fault) asking output = NothingAsked asking × (output ≡ refuses_at name text fault.at (fault_text fault.kind))
+IsExpansionOf name plugins text (Ok None) asking output = NothingAsked asking × (output ≡ refuses name 1 1 not_built)
+IsExpansionOf name plugins text (Ok (Some form)) asking output = IsExpansionAt name plugins text (site_of text plugins form) asking output
 
 -- what is written where the source could not be read
 abbrev pub unread : List ℕ → Output
@@ -140,9 +143,9 @@ unread name = record { out = []; err = name ++ codes ": the file could not be re
 abbrev pub IsExpansion : List ℕ → List Plugin → SourceRead → Asking → Output → Type 0
 IsExpansion name plugins read.Nothing asking output = ⊥
 IsExpansion name plugins read.Failed asking output = NothingAsked asking × (output ≡ unread name)
-IsExpansion name plugins read.Larger asking output = NothingAsked asking × (output ≡ refuses name 1 1 not_built)
+IsExpansion name plugins read.Larger asking output = NothingAsked asking × (output ≡ refuses name 1 1 too_large)
 IsExpansion name plugins (read.Bytes text) asking output =
-    (form : Option Form) × IsForm text form × IsExpansionOf name plugins text form asking output
+    (form : Result (Option Form) TextFault) × IsForm text form × IsExpansionOf name plugins text form asking output
 
 -- a stream gained all of the bytes
 pub record GainsAll (before after : SinkSeen) (bytes : List ℕ) : Type 0 where

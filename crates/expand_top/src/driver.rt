@@ -9,16 +9,18 @@ ghost use Rattle.expand_top.specs.Promises.{AskedOnce, LinksServe, KeepsBytes, S
 ghost use Rattle.expand_top.specs.Site.{HasPlugin, IsStartable};
 ghost use Rattle.expand_top.specs.Starts.{Starts, StopsHaveCause, FailedStartsHaveCause};
 ghost use Rattle.std.specs.List.{All};
-ghost use Rattle.expand_top.specs.Answer.{output_seen, refuses, not_built, IsSiteOutput};
+ghost use Rattle.expand_top.specs.Answer.{output_seen, refuses, refuses_at, not_built, IsSiteOutput};
+ghost use Rattle.expand_top.specs.Faults.{fault_text, too_large};
 ghost use Rattle.expand_top.specs.Source.{Form, form_seen, IsForm};
 
 use crate::answer::{NOT_BUILT, site_output};
 use crate::asking::ask_at;
 use crate::command::named_plugins;
 use crate::ended::{Ended, SourceRead};
+use crate::fault::TextFault;
 use crate::form::read_form;
 use crate::link::{Closed, Unstarted};
-use crate::report::{Output, refuses};
+use crate::report::{Output, refuses, refuses_at};
 use crate::site::{Site, site_of};
 use std::alloc::{AllocError, Global};
 use swift_base::{FileFault, Files, Plugin, Plugins, Sink, Starter, Text, WriteFault, write_all};
@@ -33,6 +35,8 @@ usage: expand [--macros FILE] [--width N] SOURCE [MODULE=COMMAND]...
 
 /// How many bytes a source may have.
 pub const LARGEST_SOURCE: u32 = 4_194_304;
+
+const TOO_LARGE: &[u8] = b"the text is longer than 4194304 bytes";
 
 fn put<S: Sink>(sink: &mut S, bytes: &Vec<u8>) -> Result<(), WriteFault>
     ensures all { OnOk result (GainsAll (S.seen sink.old) (S.seen sink.new) bytes.now.items) }
@@ -93,6 +97,20 @@ fn not_built_yet(alloc: Global, name: &str) -> Result<Output, AllocError>
     refuses(alloc, name.as_bytes(), 1, 1, NOT_BUILT)
 }
 
+// The line of a text's first fault.
+fn refused(alloc: Global, name: &str, text: &[u8], fault: TextFault) -> Result<Output, AllocError>
+    requires { length text.now < 2 ^ 32 - 1 }
+    ensures { IfOk result (λ output. output_seen output ≡ refuses_at name.now text.now fault.at (fault_text fault.kind)) }
+{
+    refuses_at(alloc, name.as_bytes(), text, fault.at, fault.kind.text())
+}
+
+fn too_large(alloc: Global, name: &str) -> Result<Output, AllocError>
+    ensures { IfOk result (λ output. output_seen output ≡ refuses name.now 1 1 too_large) }
+{
+    refuses(alloc, name.as_bytes(), 1, 1, TOO_LARGE)
+}
+
 fn unread(alloc: Global, name: &str) -> Result<Output, AllocError>
     ensures { IfOk result (λ output. output_seen output ≡ unread name.now) }
 {
@@ -139,10 +157,14 @@ fn expand_text<P: Starter>(
 ) -> Result<Expansion<P::Writer, P::Reader>, AllocError>
     requires short { length text.now ≤ 4194304 }
     requires commands { All IsStartable plugins.now }
-    ensures { IfOk result (λ e. (form : Option Form) × IsForm text.now form × IsExpansionOf name.now plugins.now text.now form
+    ensures { IfOk result (λ e. (form : _) × IsForm text.now form × IsExpansionOf name.now plugins.now text.now form
         (asking_of (map (link_seen P.Writer.seen P.Reader.seen) e.links.items) e.unstarted.items (P.seen starter.old) (P.seen starter.new)) (output_seen e.output)) }
 {
-    let Some(form) = read_form(alloc, text)? else {
+    let form = match read_form(alloc, text)? {
+        Ok(form) => form,
+        Err(fault) => return Ok(without_asking(alloc, refused(alloc, name, text, fault)?)),
+    };
+    let Some(form) = form else {
         return Ok(without_asking(alloc, not_built_yet(alloc, name)?));
     };
     let site = site_of(text, plugins.list(), &form);
@@ -165,7 +187,7 @@ fn expand_read<P: Starter>(
     match read {
         SourceRead::Nothing => unreachable!(),
         SourceRead::Failed => Ok(without_asking(alloc, unread(alloc, name)?)),
-        SourceRead::Larger => Ok(without_asking(alloc, not_built_yet(alloc, name)?)),
+        SourceRead::Larger => Ok(without_asking(alloc, too_large(alloc, name)?)),
         SourceRead::Bytes(text) => { expand_text(alloc, starter, name, plugins, text.bytes()) }
     }
 }

@@ -81,7 +81,7 @@ fn is_stop(text: &[u8], token: Token) -> bool
         || spells(text, token, b"{")
 }
 
-fn is_reserved(text: &[u8], token: Token) -> bool
+pub fn is_reserved(text: &[u8], token: Token) -> bool
     ensures { result ≡ has_mark text.now Mark.Reserved token }
 {
     let bytes = part(text, token.start, token.end);

@@ -3,15 +3,20 @@ ghost use Rattle.std.specs.Prelude.{◌≡◌, ◌≤◌, ◌<◌, ◌+◌, ◌&
 ghost use Rattle.std.specs.List.{list_any, position_or_len, filter_map};
 ghost use Rattle.std.specs.Str.{bytes_eq};
 ghost use Rattle.swift_base.specs.Names.{are_distinct};
-ghost use Rattle.swift_lexer.specs.Trees.{tree_of, forest_of};
+ghost use Rattle.swift_lexer.specs.Tokens.{IsLexed};
+ghost use Rattle.expand_top.specs.declared.fault.TextKind.TheVariants as TextKind;
+ghost use Rattle.swift_lexer.specs.Trees.{tree_of, forest_of, forest_tokens};
 ghost use Rattle.expand_top.specs.Elements.{begins_line, spans_lines};
-ghost use Rattle.expand_top.specs.Form.{line_of, lines_from, text_at, any_marked};
-ghost use Rattle.expand_top.specs.Source.{declared_by, used_by, lines_of, form_by, form_of, form_seen, HasElements, IsForm};
+ghost use Rattle.expand_top.specs.Form.{line_of, lines_from, text_at};
+ghost use Rattle.expand_top.specs.Source.{declared_by, used_by, lines_of, form_by, form_of, first_reserved, meaning_of, form_seen, meaning_seen, row_seen, elements_seen, HasElements, IsForm};
 
-use crate::elements::{Mark, begins_line, part, row_is_marked, spans_lines};
+use crate::elements::{begins_line, is_reserved, part, spans_lines};
+use crate::fault::{TextFault, TextKind};
 use crate::line::{Declaration, Line, MacroUse, line_of};
 use std::alloc::{AllocError, Global};
-use swift_lexer::{Element, LONGEST_TEXT, Refusal, group, lex};
+use swift_lexer::{
+    Element, LONGEST_TEXT, LexFault, Refusal, Token, group, groups_hold_the_tokens, lex,
+};
 
 /// The declarations of a source in order, and its use where it has one.
 #[derive(Drop)]
@@ -66,20 +71,82 @@ fn lines_of(
     Ok(Some(lines))
 }
 
-pub fn elements_of(alloc: Global, text: &[u8]) -> Result<Option<Vec<Element>>, AllocError>
-    requires { length text.now ≤ LONGEST_TEXT }
-    ensures { IfOk result (λ elements. HasElements text.now (option_map (λ v. map tree_of v.items) elements)) }
+// The tokens of a text, and the elements that they form.
+#[derive(Drop)]
+struct Row {
+    tokens: Vec<Token>,
+    elements: Vec<Element>,
+}
+
+fn group_tokens(
+    alloc: Global,
+    text: &[u8],
+    tokens: Vec<Token>,
+) -> Result<Result<Row, TextFault>, AllocError>
+    requires { IsLexed text.now (Ok tokens.items) }
+    ensures has { IfOk result (λ row. HasElements text.now (elements_seen row)) }
+    ensures tokens { IfOk result (λ row. IfOk row (λ r. r.tokens.items ≡ forest_tokens (forest_of r.elements.items))) }
 {
-    let tokens = match lex(alloc, text) {
-        Ok(tokens) => tokens,
-        Err(Refusal::Memory) => return Err(AllocError),
-        Err(Refusal::Fault(_)) => return Ok(None),
-    };
+    groups_hold_the_tokens();
     match group(alloc, &tokens, text) {
-        Ok(elements) => Ok(Some(elements)),
+        Ok(elements) => Ok(Ok(Row { tokens, elements })),
         Err(Refusal::Memory) => Err(AllocError),
-        Err(Refusal::Fault(_)) => Ok(None),
+        Err(Refusal::Fault(fault)) => Ok(Err(TextFault {
+            at: fault.at,
+            kind: TextKind::Brackets(fault.kind),
+        })),
     }
+}
+
+fn lexing_fault(fault: LexFault) -> TextFault
+    ensures { result ≡ record { at = fault.at; kind = TextKind.Lexing fault.kind } }
+{
+    TextFault {
+        at: fault.at,
+        kind: TextKind::Lexing(fault.kind),
+    }
+}
+
+fn row_of(alloc: Global, text: &[u8]) -> Result<Result<Row, TextFault>, AllocError>
+    requires { length text.now ≤ LONGEST_TEXT }
+    ensures has { IfOk result (λ row. HasElements text.now (elements_seen row)) }
+    ensures tokens { IfOk result (λ row. IfOk row (λ r. r.tokens.items ≡ forest_tokens (forest_of r.elements.items))) }
+{
+    match lex(alloc, text) {
+        Ok(tokens) => {
+            let row = group_tokens(alloc, text, tokens)?;
+            Ok(row)
+        }
+        Err(Refusal::Memory) => Err(AllocError),
+        Err(Refusal::Fault(fault)) => Ok(Err(lexing_fault(fault))),
+    }
+}
+
+/// The elements of a text, or its first fault.
+pub fn elements_of(
+    alloc: Global,
+    text: &[u8],
+) -> Result<Result<Vec<Element>, TextFault>, AllocError>
+    requires { length text.now ≤ LONGEST_TEXT }
+    ensures { IfOk result (λ elements. HasElements text.now (row_seen elements)) }
+{
+    match row_of(alloc, text)? {
+        Ok(row) => Ok(Ok(row.elements)),
+        Err(fault) => Ok(Err(fault)),
+    }
+}
+
+fn first_reserved(text: &[u8], tokens: &[Token]) -> Option<Token>
+    ensures { result ≡ first_reserved text.now tokens.now }
+{
+    let mut rest = tokens;
+    'tokens: while let [first, others @ ..] = rest {
+        if is_reserved(text, *first) {
+            return Some(*first);
+        }
+        rest = others;
+    }
+    None
 }
 
 fn declarations_of(alloc: Global, lines: &[Line]) -> Result<Vec<Declaration>, AllocError>
@@ -164,7 +231,7 @@ fn form_of(
 ) -> Result<Option<SourceForm>, AllocError>
     ensures { IfOk result (λ form. option_map form_seen form ≡ form_of text.now (map tree_of elements.now)) }
 {
-    if any_spans_lines(text, elements) || row_is_marked(text, Mark::Reserved, elements) {
+    if any_spans_lines(text, elements) {
         return Ok(None);
     }
     match lines_of(alloc, text, elements)? {
@@ -186,13 +253,39 @@ fn any_spans_lines(text: &[u8], elements: &[Element]) -> bool
     false
 }
 
-/// What a source means, where it is of the form that is read so far.
-pub fn read_form(alloc: Global, text: &[u8]) -> Result<Option<SourceForm>, AllocError>
-    requires { length text.now ≤ LONGEST_TEXT }
-    ensures { IfOk result (λ form. IsForm text.now (option_map form_seen form)) }
+// What a row of elements means.
+#[tactic(auto, unfolding(crate::specs::Source::meaning_of))]
+fn meaning_of(
+    alloc: Global,
+    text: &[u8],
+    row: &Row,
+) -> Result<Result<Option<SourceForm>, TextFault>, AllocError>
+    requires { row.now.tokens.items ≡ forest_tokens (forest_of row.now.elements.items) }
+    ensures { IfOk result (λ form. meaning_seen form ≡ meaning_of text.now (Ok (map tree_of row.now.elements.items))) }
 {
-    match elements_of(alloc, text)? {
-        Some(elements) => form_of(alloc, text, &elements),
-        None => Ok(None),
+    let form = form_of(alloc, text, &row.elements)?;
+    match first_reserved(text, &row.tokens) {
+        Some(token) => Ok(Err(TextFault {
+            at: token.start,
+            kind: TextKind::ReservedWord,
+        })),
+        None => Ok(Ok(form)),
+    }
+}
+
+/// What a source means, or nothing where it is of another form than is read so far, or its first fault.
+pub fn read_form(
+    alloc: Global,
+    text: &[u8],
+) -> Result<Result<Option<SourceForm>, TextFault>, AllocError>
+    requires { length text.now ≤ LONGEST_TEXT }
+    ensures { IfOk result (λ form. IsForm text.now (meaning_seen form)) }
+{
+    match row_of(alloc, text)? {
+        Ok(row) => {
+            let form = meaning_of(alloc, text, &row)?;
+            Ok(form)
+        }
+        Err(fault) => Ok(Err(fault)),
     }
 }

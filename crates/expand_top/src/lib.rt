@@ -9,6 +9,7 @@ mod command;
 mod driver;
 mod elements;
 mod ended;
+mod fault;
 mod form;
 mod line;
 mod link;

@@ -95,7 +95,7 @@ pub fn splice_of(alloc: Global, reply: &[u8]) -> Result<Option<Vec<u8>>, AllocEr
     if reply.len() > LARGEST_REPLY {
         return Ok(None);
     }
-    let Some(elements) = elements_of(alloc, reply)? else {
+    let Ok(elements) = elements_of(alloc, reply)? else {
         return Ok(None);
     };
     match expression_in(reply, &elements) {

@@ -178,6 +178,20 @@ fn missing_file(rt: HostRuntime) -> Result<(), Fail> {
 }
 
 #[test]
+fn source_above_the_limit(rt: HostRuntime) -> Result<(), Fail> {
+    let line = "let a = (b + c + d + e + f + g)\n";
+    let mut content = String::new(rt.alloc());
+    for _ in 0..131_073 {
+        content.push_str(line)?;
+    }
+    let none = Vec::new(rt.alloc());
+    let ran = run_on(rt, "expand r.swift", Some(&content), None, none)?;
+    let too_long = "r.swift:1:1: error: the text is longer than 4194304 bytes\n";
+    expect(&rt, &ran, 1, "", too_long);
+    Ok(())
+}
+
+#[test]
 fn first_write_fails(rt: HostRuntime) -> Result<(), Fail> {
     let alloc = rt.alloc();
     let source = joined(alloc, &[DECLARATION, "let r = #stringify(a + b)\n"])?;
@@ -222,11 +236,23 @@ fn refusals_of_a_source(rt: HostRuntime) -> Result<(), Fail> {
             "let r = (\n1)\n",
             "r.swift:1:1: error: this form is not built yet\n",
         ),
+        // unclosed_bracket
+        (
+            "expand r.swift",
+            "struct S {",
+            "r.swift:1:10: error: this bracket is not closed\n",
+        ),
+        // use_in_an_interpolation
+        (
+            "expand r.swift",
+            "let s = \"\\(#p(1))\"\n",
+            "r.swift:1:12: error: a macro use in an interpolation is left out\n",
+        ),
         // a name that is kept for expansions
         (
             "expand r.swift",
-            "let r = ($sX1)\n",
-            "r.swift:1:1: error: this form is not built yet\n",
+            "let r = 1\nlet s = ($sX1)\n",
+            "r.swift:2:10: error: names that begin with $sX are reserved\n",
         ),
         // no_script_left
         (

@@ -1,10 +1,14 @@
 pub mod Steps
+pub mod Checks
+pub mod Objects
 pub mod Cases
 pub mod Arrays
 pub mod Members
+pub mod Lookup
 pub mod NoFloats
 pub mod Plain
-pub mod PlainParts
-pub mod RoundTrip
+pub mod Passing
+pub mod PartsPassing
 pub mod ReadParts
-pub mod ReadReplies
+pub mod RoundTrip
+pub mod Format

@@ -1,10 +1,14 @@
 -- this project's own, over RFC 8259: a field of an object, by its label. Null counts as absent.
-use Rattle.std.specs.Prelude.{ℕ, List, [], ◌∷◌, Option, Some, None, option_and_then, Result, Ok, Err, nat_lt, if◌then◌else◌}
+use Rattle.std.specs.Prelude.{ℕ, ℤ, List, [], ◌∷◌, Option, Some, None, option_and_then, Result, Ok, Err, nat_lt, if◌then◌else◌}
 use Rattle.serde_json.specs.Data.{Data, null, boolean, number, string, array, object, Items, no_items, item}
-use Rattle.serde_json.specs.Find.{get, as_number, as_u64, as_array}
+use Rattle.serde_json.specs.Find.{get, as_number, as_u64, as_i64, as_str}
+use Rattle.unique_names.specs.declared.role.Role.{Role}
+use Rattle.unique_names.specs.Roles.{role_of}
+use Rattle.plugin_messages.specs.declared.request.SyntaxKind.{SyntaxKind}
+use Rattle.plugin_messages.specs.declared.message.Severity.{Severity}
+use Rattle.plugin_messages.specs.Tables.{kind_of, severity_of}
 use Rattle.plugin_messages.specs.declared.message.Reason.{Reason}
 use Rattle.plugin_messages.specs.declared.message.Reason.TheVariants.{BadField}
-use Rattle.plugin_messages.specs.Answers.{and_then}
 
 abbrev pub unless_null : Data → Option Data
 unless_null null = None
@@ -24,10 +28,6 @@ found_or reason (Some x) = Ok x
 abbrev pub or_bad : {A : Type 0} → List ℕ → Option A → Result A Reason
 or_bad label = found_or (BadField label)
 
--- the field as `take` sees it
-unfoldable pub required : {A : Type 0} → (Data → Option A) → List ℕ → Data → Result A Reason
-required take label d = or_bad label (option_and_then take (present label d))
-
 abbrev pub as_record : Data → Option Data
 as_record null = None
 as_record (boolean b) = None
@@ -40,25 +40,20 @@ as_record (object ms) = Some (object ms)
 unfoldable pub whole_below : ℕ → Data → Option ℕ
 whole_below limit d = option_and_then (λ n. if nat_lt n limit then Some n else None) (option_and_then as_u64 (as_number d))
 
--- the object at this label, read inward
-unfoldable pub inside : {A : Type 0} → (Data → Result A Reason) → List ℕ → Data → Result A Reason
-inside from label d = and_then (required as_record label d) from
+-- the items of an array
+unfoldable pub list_of : Items → List Data
+list_of no_items = []
+list_of (item d ds) = d ∷ list_of ds
 
--- an object that has to stand here, read inward
-abbrev pub element : {A : Type 0} → (Data → Result A Reason) → List ℕ → Data → Result A Reason
-element from label d = and_then (or_bad label (as_record d)) from
+unfoldable pub version_in : Data → Option ℤ
+version_in d = option_and_then as_i64 (as_number d)
 
-abbrev pub inside_if : {A : Type 0} → (Data → Result A Reason) → List ℕ → Option Data → Result (Option A) Reason
-inside_if from label None = Ok None
-inside_if from label (Some d) = and_then (element from label d) (λ x. Ok (Some x))
+-- the role, the kind and the severity of this text
+unfoldable pub role_in : Data → Option Role
+role_in d = option_and_then role_of (as_str d)
 
-unfoldable pub optional_inside : {A : Type 0} → (Data → Result A Reason) → List ℕ → Data → Result (Option A) Reason
-optional_inside from label d = inside_if from label (present label d)
+unfoldable pub kind_in : Data → Option SyntaxKind
+kind_in d = option_and_then kind_of (as_str d)
 
--- objects of an array, one after another
-unfoldable pub each : {A : Type 0} → (Data → Result A Reason) → List ℕ → Items → Result (List A) Reason
-each from label no_items = Ok []
-each from label (item d ds) = and_then (element from label d) (λ x. and_then (each from label ds) (λ xs. Ok (x ∷ xs)))
-
-unfoldable pub listed : {A : Type 0} → (Data → Result A Reason) → List ℕ → Data → Result (List A) Reason
-listed from label d = and_then (required as_array label d) (each from label)
+unfoldable pub severity_in : Data → Option Severity
+severity_in d = option_and_then severity_of (as_str d)

@@ -1,21 +1,21 @@
 -- this project's own, after swift-syntax: the host message that a payload spells, or the first reason why it spells none.
-use Rattle.std.specs.Prelude.{◌≡◌, ℕ, ℤ, List, Option, Some, None, option_map, option_and_then, Result, Ok, Err, if◌then◌else◌}
+use Rattle.std.specs.Prelude.{◌≡◌, ℕ, ℤ, List, Option, Some, None, option_map, option_and_then, Result, Err, if◌then◌else◌}
 use Rattle.std.specs.Str.{bytes_eq, is_utf8}
 use Rattle.serde_json.specs.Data.{Data, Members, no_members, member}
 use Rattle.serde_json.specs.Read.{read}
-use Rattle.serde_json.specs.Find.{as_number, as_i64, as_str, as_object}
-use Rattle.unique_names.specs.declared.role.Role.{Role}
-use Rattle.unique_names.specs.Roles.{role_of}
+use Rattle.serde_json.specs.Find.{as_object}
 use Rattle.plugin_messages.specs.declared.message.HostMessage.{HostMessage}
 use Rattle.plugin_messages.specs.declared.message.HostMessage.TheVariants.{GetCapability, Expand, LoadLibrary}
-use Rattle.plugin_messages.specs.declared.request.MacroRef.{MacroRef}
 use Rattle.plugin_messages.specs.declared.request.Parts.{Parts}
 use Rattle.plugin_messages.specs.declared.message.Reason.{Reason}
 use Rattle.plugin_messages.specs.declared.message.Reason.TheVariants.{NotJson, NoCase, UnknownCase}
 use Rattle.plugin_messages.specs.declared.labels.TheConstants.{GET_CAPABILITY, EXPAND_FREESTANDING_MACRO, EXPAND_ATTACHED_MACRO, LOAD_PLUGIN_LIBRARY, CAPABILITY, PROTOCOL_VERSION, MACRO, MACRO_ROLE, DISCRIMINATOR, LIBRARY_PATH, MODULE_NAME}
 use Rattle.plugin_messages.specs.Answers.{and_then}
-use Rattle.plugin_messages.specs.Fields.{found_or, required, as_record, inside}
-use Rattle.plugin_messages.specs.RequestParts.{macro_from, freestanding_from, attached_from}
+use Rattle.plugin_messages.specs.declared.table.Shape.TheVariants as shape
+use Rattle.plugin_messages.specs.Fields.{found_or, as_record}
+use Rattle.plugin_messages.specs.Checked.{checked_as}
+use Rattle.plugin_messages.specs.Taken.{text_at, version_at, role_at, inside}
+use Rattle.plugin_messages.specs.RequestParts.{macro_of, freestanding_of, attached_of}
 
 -- the JSON value of a payload, where it is UTF-8 and JSON
 unfoldable pub json_of : List ℕ → Option Data
@@ -43,38 +43,22 @@ message_from from payload =
     and_then (found_or NotJson (json_of payload)) (λ d.
     and_then (found_or NoCase (case_of d)) (λ case. from case.0 case.1))
 
-unfoldable pub version_of : Data → Option ℤ
-version_of d = option_and_then as_i64 (as_number d)
+-- the version that a side announces
+unfoldable pub capability_of : Data → ℤ
+capability_of d = version_at PROTOCOL_VERSION.now (inside CAPABILITY.now d)
 
-unfoldable pub capability_from : Data → Result ℤ Reason
-capability_from = inside (required version_of PROTOCOL_VERSION.now) CAPABILITY.now
+unfoldable pub expand_of : (Data → Parts) → Data → HostMessage
+expand_of parts_of d = Expand (macro_of (inside MACRO.now d)) (role_at MACRO_ROLE.now d) (text_at DISCRIMINATOR.now d) (parts_of d)
 
--- what both expansion cases begin with
-unfoldable pub head_from : Data → Result (MacroRef × Role × List ℕ) Reason
-head_from d =
-    and_then (inside macro_from MACRO.now d) (λ target.
-    and_then (required (λ e. option_and_then role_of (as_str e)) MACRO_ROLE.now d) (λ role.
-    and_then (required as_str DISCRIMINATOR.now d) (λ discriminator.
-    Ok (target, role, discriminator))))
-
-unfoldable pub expand_from : (Data → Result Parts Reason) → Data → Result HostMessage Reason
-expand_from parts_from d =
-    and_then (head_from d) (λ head.
-    and_then (parts_from d) (λ parts.
-    Ok (Expand head.0 head.1 head.2 parts)))
-
-unfoldable pub load_from : Data → Result HostMessage Reason
-load_from d =
-    and_then (required as_str LIBRARY_PATH.now d) (λ path.
-    and_then (required as_str MODULE_NAME.now d) (λ name.
-    Ok (LoadLibrary path name)))
+unfoldable pub load_of : Data → HostMessage
+load_of d = LoadLibrary (text_at LIBRARY_PATH.now d) (text_at MODULE_NAME.now d)
 
 unfoldable pub host_case : List ℕ → Data → Result HostMessage Reason
 host_case name d =
-    if bytes_eq name GET_CAPABILITY.now then and_then (capability_from d) (λ version. Ok (GetCapability version))
-    else (if bytes_eq name EXPAND_FREESTANDING_MACRO.now then expand_from freestanding_from d
-    else (if bytes_eq name EXPAND_ATTACHED_MACRO.now then expand_from attached_from d
-    else (if bytes_eq name LOAD_PLUGIN_LIBRARY.now then load_from d
+    if bytes_eq name GET_CAPABILITY.now then checked_as shape.Greeting d (GetCapability (capability_of d))
+    else (if bytes_eq name EXPAND_FREESTANDING_MACRO.now then checked_as shape.Freestanding d (expand_of freestanding_of d)
+    else (if bytes_eq name EXPAND_ATTACHED_MACRO.now then checked_as shape.Attached d (expand_of attached_of d)
+    else (if bytes_eq name LOAD_PLUGIN_LIBRARY.now then checked_as shape.Load d (load_of d)
     else Err UnknownCase)))
 
 unfoldable pub host_message_of : List ℕ → Result HostMessage Reason

@@ -1,6 +1,9 @@
 pub mod Answers
 pub mod Tables
 pub mod Fields
+pub mod Rows
+pub mod Checked
+pub mod Taken
 pub mod RequestParts
 pub mod Diagnostics
 pub mod HostOf
@@ -11,3 +14,4 @@ pub mod RequestBytes
 pub mod ReplyBytes
 pub mod RoundTrip
 pub mod Spelling
+pub mod Format

@@ -1,5 +1,5 @@
 -- this project's own, after swift-syntax: the bytes that the host sends.
-use Rattle.std.specs.Prelude.{ℕ, pos, List, [], ◌∷◌, Some, option_map}
+use Rattle.std.specs.Prelude.{ℕ, pos, List, [], ◌∷◌, Option, Some, option_map}
 use Rattle.serde_json.specs.Data.{Data, string}
 use Rattle.serde_json.specs.Written.{compact_text}
 use Rattle.unique_names.specs.declared.role.Role.{Role}
@@ -11,8 +11,10 @@ use Rattle.plugin_messages.specs.declared.request.Parts.{Parts}
 use Rattle.plugin_messages.specs.declared.request.Parts.TheVariants.{Freestanding, Attached}
 use Rattle.plugin_messages.specs.declared.message.HostMessage.{HostMessage}
 use Rattle.plugin_messages.specs.declared.message.HostMessage.TheVariants.{GetCapability, Expand, LoadLibrary}
-use Rattle.plugin_messages.specs.declared.labels.TheConstants.{GET_CAPABILITY, EXPAND_FREESTANDING_MACRO, EXPAND_ATTACHED_MACRO, LOAD_PLUGIN_LIBRARY, MACRO, MACRO_ROLE, DISCRIMINATOR, SYNTAX, ATTRIBUTE_SYNTAX, DECL_SYNTAX, PARENT_DECL_SYNTAX, EXTENDED_TYPE_SYNTAX, CONFORMANCE_LIST_SYNTAX, LIBRARY_PATH, MODULE_NAME}
-use Rattle.plugin_messages.specs.Written.{Field, object_of, macro_data, syntax_data, capability_data, case_data}
+use Rattle.plugin_messages.specs.declared.labels.TheConstants.{GET_CAPABILITY, EXPAND_FREESTANDING_MACRO, EXPAND_ATTACHED_MACRO, LOAD_PLUGIN_LIBRARY}
+use Rattle.plugin_messages.specs.declared.table.Shape.{Shape}
+use Rattle.plugin_messages.specs.declared.table.Shape.TheVariants as shape
+use Rattle.plugin_messages.specs.Written.{object_data, macro_data, syntax_data, capability_data, case_data}
 
 -- the message of a request
 abbrev pub host_of : Request → HostMessage
@@ -22,31 +24,30 @@ abbrev pub parts_case : Parts → List ℕ
 parts_case (Freestanding syntax) = EXPAND_FREESTANDING_MACRO.now
 parts_case (Attached attribute decl parent extended conformances) = EXPAND_ATTACHED_MACRO.now
 
-abbrev pub parts_fields : Parts → List Field
-parts_fields (Freestanding syntax) = (SYNTAX.now, Some (syntax_data syntax)) ∷ []
-parts_fields (Attached attribute decl parent extended conformances) =
-    (ATTRIBUTE_SYNTAX.now, Some (syntax_data attribute)) ∷
-    (DECL_SYNTAX.now, Some (syntax_data decl)) ∷
-    (PARENT_DECL_SYNTAX.now, option_map syntax_data parent) ∷
-    (EXTENDED_TYPE_SYNTAX.now, option_map syntax_data extended) ∷
-    (CONFORMANCE_LIST_SYNTAX.now, option_map syntax_data conformances) ∷ []
+abbrev pub parts_shape : Parts → Shape
+parts_shape (Freestanding syntax) = shape.Freestanding
+parts_shape (Attached attribute decl parent extended conformances) = shape.Attached
 
-abbrev pub expand_fields : MacroRef → Role → List ℕ → Parts → List Field
-expand_fields target role discriminator parts =
-    (MACRO.now, Some (macro_data target)) ∷
-    (MACRO_ROLE.now, Some (string (text_of role))) ∷
-    (DISCRIMINATOR.now, Some (string discriminator)) ∷ parts_fields parts
+abbrev pub parts_values : Parts → List (Option Data)
+parts_values (Freestanding syntax) = Some (syntax_data syntax) ∷ []
+parts_values (Attached attribute decl parent extended conformances) =
+    Some (syntax_data attribute) ∷
+    Some (syntax_data decl) ∷
+    option_map syntax_data parent ∷
+    option_map syntax_data extended ∷
+    option_map syntax_data conformances ∷ []
 
-unfoldable pub expand_data : MacroRef → Role → List ℕ → Parts → Data
-expand_data target role discriminator parts = object_of (expand_fields target role discriminator parts)
+abbrev pub expand_values : MacroRef → Role → List ℕ → Parts → List (Option Data)
+expand_values target role discriminator parts =
+    Some (macro_data target) ∷
+    Some (string (text_of role)) ∷
+    Some (string discriminator) ∷ parts_values parts
 
-abbrev pub load_fields : List ℕ → List ℕ → List Field
-load_fields path name =
-    (LIBRARY_PATH.now, Some (string path)) ∷
-    (MODULE_NAME.now, Some (string name)) ∷ []
+abbrev pub expand_data : MacroRef → Role → List ℕ → Parts → Data
+expand_data target role discriminator parts = object_data (parts_shape parts) (expand_values target role discriminator parts)
 
-unfoldable pub load_data : List ℕ → List ℕ → Data
-load_data path name = object_of (load_fields path name)
+abbrev pub load_data : List ℕ → List ℕ → Data
+load_data path name = object_data shape.Load (Some (string path) ∷ Some (string name) ∷ [])
 
 unfoldable pub host_data : HostMessage → Data
 host_data (GetCapability version) = case_data GET_CAPABILITY.now (capability_data version)

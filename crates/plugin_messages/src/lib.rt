@@ -8,11 +8,12 @@ mod laws;
 mod message;
 mod reading;
 mod request;
+mod table;
 #[cfg(test)]
 mod tests;
 mod writing;
 
-pub use laws::{words_are_spelled, written_messages_are_read_again};
+pub use laws::{tables_are_spelled, words_are_spelled, written_messages_are_read_again};
 pub use message::{
     Cause, Diagnostic, HostMessage, Note, Outcome, PluginMessage, Reason, Refusal, SEVERITIES,
     Severity,

@@ -2,13 +2,13 @@
 ghost use Rattle.std.specs.Prelude.{◌≡◌, option_map};
 ghost use Rattle.serde_json.specs.View.{view, members_view};
 ghost use Rattle.plugin_messages.specs.declared.message.Reason.TheVariants.{NotJson, NoCase};
-ghost use Rattle.plugin_messages.specs.Answers.{Answers, AnswersAs};
+ghost use Rattle.plugin_messages.specs.Answers.{AnswersAs};
 ghost use Rattle.plugin_messages.specs.Fields.{found_or};
-ghost use Rattle.plugin_messages.specs.HostOf.{json_of, sole, case_of, capability_from};
+ghost use Rattle.plugin_messages.specs.HostOf.{json_of, sole, case_of, capability_of};
 
 use crate::labels;
 use crate::message::{Reason, Refusal};
-use crate::reading::fields::{record_at, version_at};
+use crate::reading::fields::{inside, version_at};
 use serde_json::{Map, Value};
 use std::alloc::Global;
 
@@ -58,13 +58,10 @@ pub(crate) fn case(value: &Value) -> Result<(&str, &Value), Refusal<Reason>>
     }
 }
 
-#[tactic(auto, unfolding(crate::specs::HostOf::capability_from, crate::specs::Fields::inside), using(crate::proofs::Steps::passes_as))]
-pub(crate) fn capability(alloc: Global, value: &Value) -> Result<i64, Refusal<Reason>>
-    ensures { Answers result (capability_from (view value.now)) }
+/// The version that a side announces.
+#[tactic(auto, unfolding(crate::specs::HostOf::capability_of))]
+pub(crate) fn capability(value: &Value) -> i64
+    ensures { result ≡ capability_of (view value.now) }
 {
-    version_at(
-        alloc,
-        record_at(alloc, value, labels::CAPABILITY)?,
-        labels::PROTOCOL_VERSION,
-    )
+    version_at(inside(value, labels::CAPABILITY), labels::PROTOCOL_VERSION)
 }

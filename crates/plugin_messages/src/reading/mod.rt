@@ -1,5 +1,6 @@
 // From payloads to messages, or the first reason against.
 mod case;
+mod check;
 mod diagnostics;
 mod fields;
 mod host;

@@ -3,37 +3,37 @@ ghost use Rattle.std.specs.Prelude.{◌≡◌, IfOk};
 ghost use Rattle.serde_json.specs.View.{view};
 ghost use Rattle.plugin_messages.specs.Answers.{Answers};
 ghost use Rattle.plugin_messages.specs.Writable.{IsPluginWritable};
-ghost use Rattle.plugin_messages.specs.Fields.{present};
-ghost use Rattle.plugin_messages.specs.PluginOf.{text_if, result_from, loaded_from, plugin_case, plugin_message_of};
+ghost use Rattle.plugin_messages.specs.PluginOf.{reply_of, loading_of, plugin_case, plugin_message_of};
 
 use crate::labels;
 use crate::message::{PluginMessage, Reason, Refusal};
 use crate::reading::case::{capability, case, json};
-use crate::reading::diagnostics::diagnostics_at;
-use crate::reading::fields::{flag_at, optional_text};
+use crate::reading::check::check;
+use crate::reading::diagnostics::diagnostics;
+use crate::reading::fields::{flag_at, text_if};
+use crate::table::Shape;
 use serde_json::Value;
-use std::alloc::Global;
+use std::alloc::{AllocError, Global};
 
-#[tactic(auto, unfolding(crate::specs::PluginOf::result_from), using(crate::proofs::Steps::passes))]
-fn result_of(alloc: Global, value: &Value) -> Result<PluginMessage, Refusal<Reason>>
-    ensures answers { Answers result (result_from (view value.now)) }
+#[tactic(auto, unfolding(crate::specs::PluginOf::reply_of))]
+fn reply(alloc: Global, value: &Value) -> Result<PluginMessage, AllocError>
+    ensures message { IfOk result (λ m. m ≡ reply_of (view value.now)) }
     ensures writable { IfOk result IsPluginWritable }
 {
-    let text = optional_text(alloc, value, labels::EXPANDED_SOURCE)?;
-    let diagnostics = diagnostics_at(alloc, value)?;
-    Ok(PluginMessage::Result { text, diagnostics })
+    Ok(PluginMessage::Result {
+        text: text_if(alloc, value, labels::EXPANDED_SOURCE)?,
+        diagnostics: diagnostics(alloc, value)?,
+    })
 }
 
-#[tactic(auto, unfolding(crate::specs::PluginOf::loaded_from), using(crate::proofs::Steps::passes))]
-fn loaded_of(alloc: Global, value: &Value) -> Result<PluginMessage, Refusal<Reason>>
-    ensures answers { Answers result (loaded_from (view value.now)) }
+#[tactic(auto, unfolding(crate::specs::PluginOf::loading_of))]
+fn loading(alloc: Global, value: &Value) -> Result<PluginMessage, AllocError>
+    ensures message { IfOk result (λ m. m ≡ loading_of (view value.now)) }
     ensures writable { IfOk result IsPluginWritable }
 {
-    let loaded = flag_at(alloc, value, labels::LOADED)?;
-    let diagnostics = diagnostics_at(alloc, value)?;
     Ok(PluginMessage::Loaded {
-        loaded,
-        diagnostics,
+        loaded: flag_at(value, labels::LOADED),
+        diagnostics: diagnostics(alloc, value)?,
     })
 }
 
@@ -43,12 +43,16 @@ fn read_case(alloc: Global, name: &str, value: &Value) -> Result<PluginMessage, 
     ensures writable { IfOk result IsPluginWritable }
 {
     if name == labels::GET_CAPABILITY_RESULT {
-        let version = capability(alloc, value)?;
-        Ok(PluginMessage::Capability { version })
+        check(alloc, Shape::Greeting, value)?;
+        Ok(PluginMessage::Capability {
+            version: capability(value),
+        })
     } else if name == labels::EXPAND_MACRO_RESULT {
-        result_of(alloc, value)
+        check(alloc, Shape::Reply, value)?;
+        Ok(reply(alloc, value)?)
     } else if name == labels::LOAD_PLUGIN_LIBRARY_RESULT {
-        loaded_of(alloc, value)
+        check(alloc, Shape::Loading, value)?;
+        Ok(loading(alloc, value)?)
     } else {
         Err(Refusal::Fault(Reason::UnknownCase))
     }

@@ -1,11 +1,11 @@
 // The JSON values that messages are made of.
-ghost use Rattle.std.specs.Prelude.{◌≡◌, [], ◌∷◌, ◌++◌, IfOk, option_map};
+ghost use Rattle.std.specs.Prelude.{◌≡◌, [], ◌∷◌, ◌++◌, map, IfOk, option_map};
 ghost use Rattle.std.specs.Str.{IsUtf8};
 ghost use Rattle.serde_json.specs.Data.{string};
 ghost use Rattle.serde_json.specs.View.{view, members_view};
-ghost use Rattle.plugin_messages.specs.Written.{put_if, case_data, capability_data};
+ghost use Rattle.plugin_messages.specs.Written.{put_if, object_data, case_data, capability_data};
 
-use crate::labels;
+use crate::table::{Shape, rows_of};
 use serde_json::{Map, Value};
 use std::alloc::{AllocError, Global};
 use swift_base::Text;
@@ -63,26 +63,38 @@ pub(crate) fn case(alloc: Global, name: &str, labels: Value) -> Result<Value, Al
     Ok(Value::Object(fields))
 }
 
+/// The object of these values, in the order of its rows.
+#[tactic(auto, unfolding(crate::specs::Written::object_data))]
+pub(crate) fn object(
+    alloc: Global,
+    shape: Shape,
+    values: Vec<Option<Value>>,
+) -> Result<Value, AllocError>
+    ensures { IfOk result (λ v. view v ≡ object_data shape (map (option_map view) values.items)) }
+{
+    let mut fields = Map::new(alloc);
+    let rows = rows_of(shape);
+    let mut index: usize = 0;
+    'values: for value in values {
+        if index >= rows.len() {
+            return Ok(Value::Object(fields));
+        }
+        put_optional(&mut fields, alloc, rows[index].0, value)?;
+        index += 1;
+    }
+    Ok(Value::Object(fields))
+}
+
 /// The labels with which a side announces its version.
-#[tactic(auto, unfolding(crate::specs::Written::capability_data))]
 pub(crate) fn capability(alloc: Global, version: i64) -> Result<Value, AllocError>
     ensures { IfOk result (λ v. view v ≡ capability_data version) }
 {
-    let mut announced = Map::new(alloc);
-    put(
-        &mut announced,
+    let announced = object(
         alloc,
-        labels::PROTOCOL_VERSION,
-        Value::from(version),
+        Shape::Capability,
+        vec![in alloc; Some(Value::from(version))]?,
     )?;
-    let mut fields = Map::new(alloc);
-    put(
-        &mut fields,
-        alloc,
-        labels::CAPABILITY,
-        Value::Object(announced),
-    )?;
-    Ok(Value::Object(fields))
+    object(alloc, Shape::Greeting, vec![in alloc; Some(announced)]?)
 }
 
 pub(crate) fn push(items: &mut Vec<Value>, item: Value) -> Result<(), AllocError>

@@ -1,55 +1,38 @@
 // What a plug-in sends, as JSON.
-ghost use Rattle.std.specs.Prelude.{◌≡◌, ◌^◌, ◌<◌, [], ◌∷◌, ◌++◌, IfOk, option_map};
+ghost use Rattle.std.specs.Prelude.{◌≡◌, ◌^◌, ◌<◌, [], ◌∷◌, ◌++◌, map, IfOk, option_map};
 ghost use Rattle.std.specs.Str.{IsUtf8};
 ghost use Rattle.std.specs.List.{All};
 ghost use Rattle.serde_json.specs.Data.{string};
 ghost use Rattle.serde_json.specs.View.{view};
 ghost use Rattle.plugin_messages.specs.Writable.{WhereSome, IsNoteWritable, IsDiagnosticWritable, IsPluginWritable};
 ghost use Rattle.plugin_messages.specs.Written.{array_of, position_data, note_data, diagnostic_data};
-ghost use Rattle.plugin_messages.specs.ReplyBytes.{result_data, loaded_data, plugin_data};
+ghost use Rattle.plugin_messages.specs.ReplyBytes.{reply_data, loading_data, plugin_data};
 
 use crate::labels;
 use crate::message::{Diagnostic, Note, PluginMessage};
-use crate::writing::fields::{capability, case, push, put, put_optional, text, word};
-use serde_json::{Map, Value};
+use crate::table::Shape;
+use crate::writing::fields::{capability, case, object, push, text, word};
+use serde_json::Value;
 use std::alloc::{AllocError, Global};
 use swift_base::{Listed, Text};
 
-#[tactic(auto, unfolding(crate::specs::Written::position_data))]
 fn position(alloc: Global, file_name: &Text, offset: u64) -> Result<Value, AllocError>
     requires { IsUtf8 file_name.now }
     ensures { IfOk result (λ v. view v ≡ position_data file_name.now offset) }
 {
-    let mut fields = Map::new(alloc);
-    put(
-        &mut fields,
-        alloc,
-        labels::FILE_NAME,
-        text(alloc, file_name)?,
-    )?;
-    put(&mut fields, alloc, labels::OFFSET, Value::from(offset))?;
-    Ok(Value::Object(fields))
+    let values = vec![in alloc; Some(text(alloc, file_name)?), Some(Value::from(offset))]?;
+    object(alloc, Shape::Position, values)
 }
 
-#[tactic(auto, unfolding(crate::specs::Written::note_data))]
 fn note(alloc: Global, note: &Note) -> Result<Value, AllocError>
     requires { IsNoteWritable note.now }
     ensures { IfOk result (λ v. view v ≡ note_data note.now) }
 {
-    let mut fields = Map::new(alloc);
-    put(
-        &mut fields,
-        alloc,
-        labels::MESSAGE,
-        text(alloc, &note.message)?,
-    )?;
-    put(
-        &mut fields,
-        alloc,
-        labels::POSITION,
-        position(alloc, &note.file_name, note.offset)?,
-    )?;
-    Ok(Value::Object(fields))
+    let values = vec![in alloc;
+        Some(text(alloc, &note.message)?),
+        Some(position(alloc, &note.file_name, note.offset)?),
+    ]?;
+    object(alloc, Shape::Note, values)
 }
 
 fn notes(alloc: Global, notes: &[Note]) -> Result<Value, AllocError>
@@ -63,45 +46,20 @@ fn notes(alloc: Global, notes: &[Note]) -> Result<Value, AllocError>
     Ok(Value::Array(items))
 }
 
-#[tactic(auto, unfolding(crate::specs::Written::diagnostic_data))]
+#[tactic(auto, using(crate::proofs::Arrays::view_empty))]
 fn diagnostic(alloc: Global, diagnostic: &Diagnostic) -> Result<Value, AllocError>
     requires { IsDiagnosticWritable diagnostic.now }
     ensures { IfOk result (λ v. view v ≡ diagnostic_data diagnostic.now) }
 {
-    let mut fields = Map::new(alloc);
-    put(
-        &mut fields,
-        alloc,
-        labels::MESSAGE,
-        text(alloc, &diagnostic.message)?,
-    )?;
-    put(
-        &mut fields,
-        alloc,
-        labels::SEVERITY,
-        word(alloc, diagnostic.severity.text())?,
-    )?;
-    let place = position(alloc, &diagnostic.file_name, diagnostic.offset)?;
-    put(&mut fields, alloc, labels::POSITION, place)?;
-    put(
-        &mut fields,
-        alloc,
-        labels::HIGHLIGHTS,
-        Value::Array(Vec::new(alloc)),
-    )?;
-    put(
-        &mut fields,
-        alloc,
-        labels::NOTES,
-        notes(alloc, diagnostic.notes.items())?,
-    )?;
-    put(
-        &mut fields,
-        alloc,
-        labels::FIX_ITS,
-        Value::Array(Vec::new(alloc)),
-    )?;
-    Ok(Value::Object(fields))
+    let values = vec![in alloc;
+        Some(text(alloc, &diagnostic.message)?),
+        Some(word(alloc, diagnostic.severity.text())?),
+        Some(position(alloc, &diagnostic.file_name, diagnostic.offset)?),
+        Some(Value::Array(Vec::new(alloc))),
+        Some(notes(alloc, diagnostic.notes.items())?),
+        Some(Value::Array(Vec::new(alloc))),
+    ]?;
+    object(alloc, Shape::Diagnostic, values)
 }
 
 fn diagnostics(alloc: Global, diagnostics: &[Diagnostic]) -> Result<Value, AllocError>
@@ -125,42 +83,27 @@ fn text_if(alloc: Global, found: &Option<Text>) -> Result<Option<Value>, AllocEr
     }
 }
 
-#[tactic(auto, unfolding(crate::specs::ReplyBytes::result_data))]
 fn reply(alloc: Global, text: &Option<Text>, list: &Listed<Diagnostic>) -> Result<Value, AllocError>
     requires text { WhereSome IsUtf8 text.now }
     requires list { All IsDiagnosticWritable list.now }
-    ensures { IfOk result (λ v. view v ≡ result_data text.now list.now) }
+    ensures { IfOk result (λ v. view v ≡ reply_data text.now list.now) }
 {
-    let mut fields = Map::new(alloc);
-    put_optional(
-        &mut fields,
-        alloc,
-        labels::EXPANDED_SOURCE,
+    let values = vec![in alloc;
         text_if(alloc, text)?,
-    )?;
-    put(
-        &mut fields,
-        alloc,
-        labels::DIAGNOSTICS,
-        diagnostics(alloc, list.items())?,
-    )?;
-    Ok(Value::Object(fields))
+        Some(diagnostics(alloc, list.items())?),
+    ]?;
+    object(alloc, Shape::Reply, values)
 }
 
-#[tactic(auto, unfolding(crate::specs::ReplyBytes::loaded_data))]
 fn loading(alloc: Global, loaded: bool, list: &Listed<Diagnostic>) -> Result<Value, AllocError>
     requires { All IsDiagnosticWritable list.now }
-    ensures { IfOk result (λ v. view v ≡ loaded_data loaded list.now) }
+    ensures { IfOk result (λ v. view v ≡ loading_data loaded list.now) }
 {
-    let mut fields = Map::new(alloc);
-    put(&mut fields, alloc, labels::LOADED, Value::Bool(loaded))?;
-    put(
-        &mut fields,
-        alloc,
-        labels::DIAGNOSTICS,
-        diagnostics(alloc, list.items())?,
-    )?;
-    Ok(Value::Object(fields))
+    let values = vec![in alloc;
+        Some(Value::Bool(loaded)),
+        Some(diagnostics(alloc, list.items())?),
+    ]?;
+    object(alloc, Shape::Loading, values)
 }
 
 #[tactic(auto, unfolding(crate::specs::ReplyBytes::plugin_data))]

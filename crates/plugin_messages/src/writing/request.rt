@@ -1,52 +1,33 @@
 // What the host sends, as JSON.
-ghost use Rattle.std.specs.Prelude.{◌≡◌, IfOk, option_map};
+ghost use Rattle.std.specs.Prelude.{◌≡◌, map, IfOk, option_map};
 ghost use Rattle.std.specs.Str.{IsUtf8};
-ghost use Rattle.serde_json.specs.View.{view, members_view};
+ghost use Rattle.serde_json.specs.View.{view};
 ghost use Rattle.plugin_messages.specs.Writable.{WhereSome, IsLocationWritable, IsSyntaxWritable, IsMacroWritable, ArePartsWritable, IsHostWritable};
-ghost use Rattle.plugin_messages.specs.Written.{location_data, syntax_data, macro_data, with_fields};
-ghost use Rattle.plugin_messages.specs.RequestBytes.{parts_case, parts_fields, expand_data, load_data, host_data};
+ghost use Rattle.plugin_messages.specs.Written.{location_data, syntax_data, macro_data};
+ghost use Rattle.plugin_messages.specs.RequestBytes.{parts_case, parts_shape, expand_data, load_data, host_data};
 
 use crate::labels;
 use crate::message::HostMessage;
 use crate::request::{Location, MacroRef, Parts, Syntax};
-use crate::writing::fields::{capability, case, put, put_optional, text, word};
-use serde_json::{Map, Value};
+use crate::table::Shape;
+use crate::writing::fields::{capability, case, object, text, word};
+use serde_json::Value;
 use std::alloc::{AllocError, Global};
 use swift_base::Text;
 use unique_names::Role;
 
-#[tactic(auto, unfolding(crate::specs::Written::location_data))]
 fn location(alloc: Global, location: &Location) -> Result<Value, AllocError>
     requires { IsLocationWritable location.now }
     ensures { IfOk result (λ v. view v ≡ location_data location.now) }
 {
-    let mut fields = Map::new(alloc);
-    put(
-        &mut fields,
-        alloc,
-        labels::FILE_ID,
-        text(alloc, &location.file_id)?,
-    )?;
-    put(
-        &mut fields,
-        alloc,
-        labels::FILE_NAME,
-        text(alloc, &location.file_name)?,
-    )?;
-    put(
-        &mut fields,
-        alloc,
-        labels::OFFSET,
-        Value::from(location.offset),
-    )?;
-    put(&mut fields, alloc, labels::LINE, Value::from(location.line))?;
-    put(
-        &mut fields,
-        alloc,
-        labels::COLUMN,
-        Value::from(location.column),
-    )?;
-    Ok(Value::Object(fields))
+    let values = vec![in alloc;
+        Some(text(alloc, &location.file_id)?),
+        Some(text(alloc, &location.file_name)?),
+        Some(Value::from(location.offset)),
+        Some(Value::from(location.line)),
+        Some(Value::from(location.column)),
+    ]?;
+    object(alloc, Shape::Location, values)
 }
 
 fn location_if(alloc: Global, found: &Option<Location>) -> Result<Option<Value>, AllocError>
@@ -59,31 +40,16 @@ fn location_if(alloc: Global, found: &Option<Location>) -> Result<Option<Value>,
     }
 }
 
-#[tactic(auto, unfolding(crate::specs::Written::syntax_data))]
 fn syntax(alloc: Global, syntax: &Syntax) -> Result<Value, AllocError>
     requires { IsSyntaxWritable syntax.now }
     ensures { IfOk result (λ v. view v ≡ syntax_data syntax.now) }
 {
-    let mut fields = Map::new(alloc);
-    put(
-        &mut fields,
-        alloc,
-        labels::KIND,
-        word(alloc, syntax.kind.text())?,
-    )?;
-    put(
-        &mut fields,
-        alloc,
-        labels::SOURCE,
-        text(alloc, &syntax.source)?,
-    )?;
-    put_optional(
-        &mut fields,
-        alloc,
-        labels::LOCATION,
+    let values = vec![in alloc;
+        Some(word(alloc, syntax.kind.text())?),
+        Some(text(alloc, &syntax.source)?),
         location_if(alloc, &syntax.location)?,
-    )?;
-    Ok(Value::Object(fields))
+    ]?;
+    object(alloc, Shape::Syntax, values)
 }
 
 fn syntax_if(alloc: Global, found: &Option<Syntax>) -> Result<Option<Value>, AllocError>
@@ -96,81 +62,18 @@ fn syntax_if(alloc: Global, found: &Option<Syntax>) -> Result<Option<Value>, All
     }
 }
 
-#[tactic(auto, unfolding(crate::specs::Written::macro_data))]
 fn macro_ref(alloc: Global, target: &MacroRef) -> Result<Value, AllocError>
     requires { IsMacroWritable target.now }
     ensures { IfOk result (λ v. view v ≡ macro_data target.now) }
 {
-    let mut fields = Map::new(alloc);
-    put(
-        &mut fields,
-        alloc,
-        labels::MODULE_NAME,
-        text(alloc, &target.module)?,
-    )?;
-    put(
-        &mut fields,
-        alloc,
-        labels::TYPE_NAME,
-        text(alloc, &target.type_name)?,
-    )?;
-    put(&mut fields, alloc, labels::NAME, text(alloc, &target.name)?)?;
-    Ok(Value::Object(fields))
+    let values = vec![in alloc;
+        Some(text(alloc, &target.module)?),
+        Some(text(alloc, &target.type_name)?),
+        Some(text(alloc, &target.name)?),
+    ]?;
+    object(alloc, Shape::Macro, values)
 }
 
-// The labels in which the two expansion cases differ.
-fn put_parts(
-    fields: &mut Map<String, Value>,
-    alloc: Global,
-    parts: &Parts,
-) -> Result<(), AllocError>
-    requires { ArePartsWritable parts.now }
-    ensures { IfOk result (λ _. members_view fields.new.entries ≡ with_fields (parts_fields parts.now) (members_view fields.old.entries)) }
-{
-    match parts {
-        Parts::Freestanding { syntax: part } => put(
-            fields,
-            alloc,
-            labels::SYNTAX,
-            syntax(alloc, part)?,
-        ),
-        Parts::Attached {
-            attribute,
-            decl,
-            parent,
-            extended,
-            conformances,
-        } => {
-            put(
-                fields,
-                alloc,
-                labels::ATTRIBUTE_SYNTAX,
-                syntax(alloc, attribute)?,
-            )?;
-            put(fields, alloc, labels::DECL_SYNTAX, syntax(alloc, decl)?)?;
-            put_optional(
-                fields,
-                alloc,
-                labels::PARENT_DECL_SYNTAX,
-                syntax_if(alloc, parent)?,
-            )?;
-            put_optional(
-                fields,
-                alloc,
-                labels::EXTENDED_TYPE_SYNTAX,
-                syntax_if(alloc, extended)?,
-            )?;
-            put_optional(
-                fields,
-                alloc,
-                labels::CONFORMANCE_LIST_SYNTAX,
-                syntax_if(alloc, conformances)?,
-            )
-        }
-    }
-}
-
-#[tactic(auto, unfolding(crate::specs::RequestBytes::expand_data))]
 fn expansion(
     alloc: Global,
     target: &MacroRef,
@@ -183,39 +86,43 @@ fn expansion(
     requires parts { ArePartsWritable parts.now }
     ensures { IfOk result (λ v. view v ≡ expand_data target.now role discriminator.now parts.now) }
 {
-    let mut fields = Map::new(alloc);
-    put(&mut fields, alloc, labels::MACRO, macro_ref(alloc, target)?)?;
-    put(
-        &mut fields,
-        alloc,
-        labels::MACRO_ROLE,
-        word(alloc, role.text())?,
-    )?;
-    put(
-        &mut fields,
-        alloc,
-        labels::DISCRIMINATOR,
-        text(alloc, discriminator)?,
-    )?;
-    put_parts(&mut fields, alloc, parts)?;
-    Ok(Value::Object(fields))
+    let target = Some(macro_ref(alloc, target)?);
+    let role = Some(word(alloc, role.text())?);
+    let discriminator = Some(text(alloc, discriminator)?);
+    match parts {
+        Parts::Freestanding { syntax: part } => {
+            let values = vec![in alloc; target, role, discriminator, Some(syntax(alloc, part)?)]?;
+            object(alloc, Shape::Freestanding, values)
+        }
+        Parts::Attached {
+            attribute,
+            decl,
+            parent,
+            extended,
+            conformances,
+        } => {
+            let values = vec![in alloc;
+                target,
+                role,
+                discriminator,
+                Some(syntax(alloc, attribute)?),
+                Some(syntax(alloc, decl)?),
+                syntax_if(alloc, parent)?,
+                syntax_if(alloc, extended)?,
+                syntax_if(alloc, conformances)?,
+            ]?;
+            object(alloc, Shape::Attached, values)
+        }
+    }
 }
 
-#[tactic(auto, unfolding(crate::specs::RequestBytes::load_data))]
 fn load(alloc: Global, path: &Text, module: &Text) -> Result<Value, AllocError>
     requires path { IsUtf8 path.now }
     requires module_name { IsUtf8 module.now }
     ensures { IfOk result (λ v. view v ≡ load_data path.now module.now) }
 {
-    let mut fields = Map::new(alloc);
-    put(&mut fields, alloc, labels::LIBRARY_PATH, text(alloc, path)?)?;
-    put(
-        &mut fields,
-        alloc,
-        labels::MODULE_NAME,
-        text(alloc, module)?,
-    )?;
-    Ok(Value::Object(fields))
+    let values = vec![in alloc; Some(text(alloc, path)?), Some(text(alloc, module)?)]?;
+    object(alloc, Shape::Load, values)
 }
 
 #[tactic(auto, unfolding(crate::specs::RequestBytes::host_data))]
