@@ -1,0 +1,64 @@
+-- The outline of a text, or its first fault: this project's own.
+use Rattle.std.specs.Prelude.{◌≡◌, ℕ, ◌+◌, ◌-◌, nat_lt, List, [], ◌∷◌, length, slice_range, Result, Ok, Err, Bool, true, false, ◌&&◌, if◌then◌else◌}
+use Rattle.swift_base.specs.declared.place.Span.{Span}
+use Rattle.swift_lexer.specs.declared.token.Class.{Class}
+use Rattle.swift_lexer.specs.declared.token.Class.TheVariants.{Word, Quoted}
+use Rattle.swift_lexer.specs.declared.token.Token.{Token}
+use Rattle.swift_lexer.specs.Tokens.{Outcome, IsLexed}
+use Rattle.swift_lexer.specs.Trees.{Forest}
+use Rattle.swift_lexer.specs.Groups.{GroupOutcome, IsGrouped}
+use Rattle.swift_lexer.proofs.SomeOutcome.{some_token_outcome}
+use Rattle.swift_tree.specs.declared.outline.Shape.{Shape}
+use Rattle.swift_tree.specs.declared.outline.Shape.TheVariants as shape
+use Rattle.swift_tree.specs.Outlines.{OutlineSeen}
+use Rattle.decl_parser.specs.declared.fault.ParseFault.{ParseFault}
+use Rattle.decl_parser.specs.declared.fault.ParseKind.TheVariants.{SourceTooLarge, ReservedWord}
+use Rattle.decl_parser.specs.declared.parse.TheConstants.{LONGEST_SOURCE}
+use Rattle.decl_parser.specs.Faults.{fault, lex_kind, group_kind, and_then}
+use Rattle.decl_parser.specs.Words.{is_reserved}
+use Rattle.decl_parser.specs.Levels.{seen_of}
+use Rattle.decl_parser.specs.Fragments.{by_shape}
+use Rattle.decl_parser.specs.Grouping.{groups_of}
+
+abbrev pub OutlineOutcome : Type 0
+OutlineOutcome = Result OutlineSeen ParseFault
+
+-- the one outcome of a text's tokens
+pub tokens_of : List ℕ → Outcome
+tokens_of text = (some_token_outcome text).0
+
+-- a name's own bytes; other tokens have none
+abbrev pub name_bytes : List ℕ → Class → Token → List ℕ
+name_bytes text Word token = slice_range text token.start token.end
+name_bytes text Quoted token = slice_range text (token.start + 1) (token.end - 1)
+name_bytes text _ token = []
+
+-- no word of the text is one that only macros make
+abbrev pub unreserved : List ℕ → List Token → Result (List Token) ParseFault
+unreserved text [] = Ok []
+unreserved text (token ∷ tokens) =
+    if is_reserved (name_bytes text token.class token) then Err (fault token.start ReservedWord) else unreserved text tokens
+
+-- only a file is looked through for reserved words
+abbrev pub allowed : List ℕ → Shape → List Token → Result (List Token) ParseFault
+allowed text shape.File tokens = unreserved text tokens
+allowed text _ tokens = Ok []
+
+abbrev pub grouped : List ℕ → Shape → List Token → GroupOutcome → OutlineOutcome
+grouped text shape tokens (Ok forest) = and_then (allowed text shape tokens) (λ fine. by_shape text shape (seen_of text forest))
+grouped text shape tokens (Err found) = Err (fault found.at (group_kind found.kind))
+
+abbrev pub lexed : List ℕ → Shape → Outcome → OutlineOutcome
+lexed text shape (Ok tokens) = grouped text shape tokens (groups_of text tokens)
+lexed text shape (Err found) = Err (fault found.at (lex_kind found.kind))
+
+-- the outline of a text, or its first fault: by its length, its tokens, its brackets, its words, its declarations
+unfoldable pub outline : List ℕ → Shape → OutlineOutcome
+outline text shape = if nat_lt LONGEST_SOURCE (length text) then Err (fault 0 SourceTooLarge) else lexed text shape (tokens_of text)
+
+abbrev pub IsOutline : List ℕ → Shape → OutlineOutcome → Type 0
+IsOutline text shape outcome = outcome ≡ outline text shape
+
+-- a source that is read
+abbrev pub Accepted : List ℕ → Type 0
+Accepted text = (seen : OutlineSeen) × IsOutline text shape.File (Ok seen)
