@@ -1,0 +1,11 @@
+pub mod Accessors
+pub mod Answers
+pub mod Heads
+pub mod Inherits
+pub mod Levels
+pub mod Marks
+pub mod Runs
+pub mod Sorts
+pub mod Spans
+pub mod Uses
+pub mod Words

@@ -1,0 +1,99 @@
+// How far a macro use goes.
+
+ghost use Rattle.std.specs.Prelude.{◌≡◌, ◌+◌, ◌≤◌, length, reverse};
+ghost use Rattle.element_marks.specs.Uses.{call_length, in_condition, is_closure, labels_length, use_angles, use_length};
+
+use crate::heads::{behind, first_arguments, first_use};
+use crate::mark::Mark;
+use crate::sorts::{is_braces, is_colon, is_dot, is_semicolon, is_word};
+use crate::words::is_condition;
+
+/// Whether, going back over the elements, the first of braces, a `;` and a word that begins a condition is such a
+/// word.
+fn in_condition(before: &[Mark]) -> bool
+    ensures { result ≡ in_condition (reverse before.now) }
+{
+    let mut at = before.len();
+    'elements: while at > 0 {
+        at -= 1;
+        let mark = &before[at];
+        if is_braces(mark) || is_semicolon(mark) {
+            return false;
+        }
+        if is_condition(mark.keyword) && (at == 0 || !is_dot(&before[at - 1])) {
+            return true;
+        }
+    }
+    false
+}
+
+fn is_closure(blocks: &[u32], mark: &Mark) -> bool
+    ensures { result ≡ is_closure blocks.now mark.now }
+{
+    is_braces(mark) && !mark.first && !blocks.contains(&mark.start)
+}
+
+fn use_angles(marks: &[Mark]) -> usize
+    ensures value { result ≡ use_angles marks.now }
+    ensures bound { result ≤ length marks.now }
+{
+    match marks.first() {
+        Some(mark) if mark.begins_angle && !mark.spaced && mark.angles <= marks.len() => {
+            mark.angles
+        }
+        _ => 0,
+    }
+}
+
+/// Further closures: a word, a colon and braces on the same line.
+fn labels_length(blocks: &[u32], marks: &[Mark]) -> usize
+    ensures value { result ≡ labels_length blocks.now marks.now }
+    ensures bound { result ≤ length marks.now }
+{
+    let mut rest = marks;
+    let mut count = 0;
+    'labels: while let (Some(label), Some(colon), Some(closure)) = (
+        rest.first(),
+        rest.get(1),
+        rest.get(2),
+    ) {
+        let named = is_word(label) && !label.first && is_colon(colon) && !colon.first;
+        if !named || !is_closure(blocks, closure) {
+            return count;
+        }
+        rest = behind(rest, 3);
+        count += 3;
+    }
+    count
+}
+
+/// How many elements the angle part and the arguments of a use are.
+fn call_length(marks: &[Mark]) -> usize
+    ensures value { result ≡ call_length marks.now }
+    ensures bound { result ≤ length marks.now + 1 }
+{
+    let angles = use_angles(marks);
+    if first_arguments(behind(marks, angles)) {
+        angles + 1
+    } else {
+        angles
+    }
+}
+
+/// How many elements the use is that begins `marks`; 0 where none does.
+#[tactic(auto, unfolding(crate::specs::Uses::use_length))]
+pub fn use_length(blocks: &[u32], before: &[Mark], marks: &[Mark]) -> usize
+    ensures { result ≡ use_length blocks.now (reverse before.now) marks.now }
+{
+    if !first_use(marks) {
+        return 0;
+    }
+    let called = 1 + call_length(behind(marks, 1));
+    let rest = behind(marks, called);
+    match rest.first() {
+        Some(closure) if is_closure(blocks, closure) && !in_condition(before) => {
+            called + 1 + labels_length(blocks, behind(rest, 1))
+        }
+        _ => called,
+    }
+}

@@ -1,0 +1,278 @@
+// The words with a meaning in the grammar of declarations: one row a word.
+
+ghost use Rattle.std.specs.Prelude.{◌≡◌};
+ghost use Rattle.std.specs.Prelude.{find};
+ghost use Rattle.std.specs.List.{list_any};
+ghost use Rattle.std.specs.Option.{option_copied};
+ghost use Rattle.std.specs.Str.{bytes_eq};
+ghost use Rattle.element_marks.specs.Words.{keyword_in, keyword_of, is_builtin, is_reserved, wants_name, is_modifier, is_joining, is_accessor, is_observer, is_operator_name, is_class_member, is_class, is_underscore, is_where, is_condition, is_async, is_throws, is_accessor_modifier};
+
+use swift_lexer::BUILTIN_WORDS;
+
+/// The words that begin a declaration.
+#[derive(Clone, Copy, PartialEq, Eq, Debug)]
+pub enum Starter {
+    Import,
+    Typealias,
+    Associatedtype,
+    Struct,
+    Class,
+    Enum,
+    Protocol,
+    Extension,
+    Func,
+    Var,
+    Let,
+    Init,
+    Deinit,
+    Subscript,
+    Case,
+    Operator,
+    Precedencegroup,
+    Actor,
+    Macro,
+}
+
+/// What a word is for.
+#[derive(Clone, Copy, PartialEq, Eq, Debug)]
+pub enum Keyword {
+    /// No word of the table.
+    Plain,
+    /// `_`, which is no name.
+    Underscore,
+    /// A modifier of declarations.
+    Modifier,
+    /// A modifier of declarations and of accessors.
+    AccessorModifier,
+    /// Begins a declaration.
+    Starts(Starter),
+    /// Joins what stands before it to what stands behind it.
+    Joining,
+    /// Joins, and ends an inheritance clause.
+    Where,
+    /// Begins a condition.
+    Condition,
+    /// Begins an accessor.
+    Accessor,
+    /// Begins an accessor that observes a variable.
+    Observer,
+    Async,
+    Throws,
+}
+
+/// After the chapters on declarations and statements of The Swift Programming Language, and SE-0426 for accessors.
+/// `class` is a modifier where one of these or a member follows; `actor` and `macro` begin a declaration where a
+/// name follows; `init` begins an accessor too.
+pub const WORDS: [(&[u8], Keyword); 72] = [
+    (b"_", Keyword::Underscore),
+    (b"public", Keyword::Modifier),
+    (b"private", Keyword::Modifier),
+    (b"fileprivate", Keyword::Modifier),
+    (b"internal", Keyword::Modifier),
+    (b"open", Keyword::Modifier),
+    (b"package", Keyword::Modifier),
+    (b"static", Keyword::Modifier),
+    (b"final", Keyword::Modifier),
+    (b"override", Keyword::Modifier),
+    (b"mutating", Keyword::AccessorModifier),
+    (b"nonmutating", Keyword::AccessorModifier),
+    (b"lazy", Keyword::Modifier),
+    (b"weak", Keyword::Modifier),
+    (b"unowned", Keyword::Modifier),
+    (b"dynamic", Keyword::Modifier),
+    (b"optional", Keyword::Modifier),
+    (b"required", Keyword::Modifier),
+    (b"convenience", Keyword::Modifier),
+    (b"indirect", Keyword::Modifier),
+    (b"isolated", Keyword::Modifier),
+    (b"nonisolated", Keyword::Modifier),
+    (b"prefix", Keyword::Modifier),
+    (b"postfix", Keyword::Modifier),
+    (b"infix", Keyword::Modifier),
+    (b"consuming", Keyword::AccessorModifier),
+    (b"borrowing", Keyword::AccessorModifier),
+    (b"distributed", Keyword::Modifier),
+    (b"__consuming", Keyword::AccessorModifier),
+    (b"import", Keyword::Starts(Starter::Import)),
+    (b"typealias", Keyword::Starts(Starter::Typealias)),
+    (b"associatedtype", Keyword::Starts(Starter::Associatedtype)),
+    (b"struct", Keyword::Starts(Starter::Struct)),
+    (b"class", Keyword::Starts(Starter::Class)),
+    (b"enum", Keyword::Starts(Starter::Enum)),
+    (b"protocol", Keyword::Starts(Starter::Protocol)),
+    (b"extension", Keyword::Starts(Starter::Extension)),
+    (b"func", Keyword::Starts(Starter::Func)),
+    (b"var", Keyword::Starts(Starter::Var)),
+    (b"let", Keyword::Starts(Starter::Let)),
+    (b"init", Keyword::Starts(Starter::Init)),
+    (b"deinit", Keyword::Starts(Starter::Deinit)),
+    (b"subscript", Keyword::Starts(Starter::Subscript)),
+    (b"case", Keyword::Starts(Starter::Case)),
+    (b"operator", Keyword::Starts(Starter::Operator)),
+    (b"precedencegroup", Keyword::Starts(Starter::Precedencegroup)),
+    (b"actor", Keyword::Starts(Starter::Actor)),
+    (b"macro", Keyword::Starts(Starter::Macro)),
+    (b"try", Keyword::Joining),
+    (b"await", Keyword::Joining),
+    (b"as", Keyword::Joining),
+    (b"is", Keyword::Joining),
+    (b"in", Keyword::Joining),
+    (b"where", Keyword::Where),
+    (b"if", Keyword::Condition),
+    (b"guard", Keyword::Condition),
+    (b"while", Keyword::Condition),
+    (b"for", Keyword::Condition),
+    (b"switch", Keyword::Condition),
+    (b"catch", Keyword::Condition),
+    (b"get", Keyword::Accessor),
+    (b"set", Keyword::Accessor),
+    (b"willSet", Keyword::Observer),
+    (b"didSet", Keyword::Observer),
+    (b"_read", Keyword::Accessor),
+    (b"_modify", Keyword::Accessor),
+    (b"read", Keyword::Accessor),
+    (b"modify", Keyword::Accessor),
+    (b"unsafeAddress", Keyword::Accessor),
+    (b"unsafeMutableAddress", Keyword::Accessor),
+    (b"async", Keyword::Async),
+    (b"throws", Keyword::Throws),
+];
+
+/// With what a name begins that only macros make.
+pub const RESERVED: &[u8] = b"$sX";
+
+/// What the word is for.
+#[tactic(auto, unfolding(crate::specs::Words::keyword_of))]
+pub fn keyword_of(word: &[u8]) -> Keyword
+    ensures { result ≡ keyword_of word.now }
+{
+    keyword_in(&WORDS, word)
+}
+
+fn keyword_in(rows: &[(&[u8], Keyword)], word: &[u8]) -> Keyword
+    ensures { result ≡ keyword_in (λ row. row.0.now) (λ row. row.1) rows.now word.now }
+{
+    match row_of(rows, word) {
+        Some(row) => row.1,
+        None => Keyword::Plain,
+    }
+}
+
+fn row_of<'a>(rows: &'a [(&'a [u8], Keyword)], word: &[u8]) -> Option<&'a (&'a [u8], Keyword)>
+    ensures { option_copied result ≡ find (λ row. bytes_eq row.0.now word.now) rows.now }
+{
+    rows.iter().find(|row| row.0 == word)
+}
+
+/// Whether the word behind a `#` is one of Swift's own.
+#[tactic(auto, unfolding(crate::specs::Words::is_builtin))]
+pub fn is_builtin(word: &[u8]) -> bool
+    ensures { result ≡ is_builtin word.now }
+{
+    is_one_of(&BUILTIN_WORDS, word)
+}
+
+fn is_one_of(words: &[&[u8]], word: &[u8]) -> bool
+    ensures { result ≡ list_any (λ one. bytes_eq one.now word.now) words.now }
+{
+    words.iter().any(|one| *one == word)
+}
+
+/// Whether only macros make such a name.
+#[tactic(auto, unfolding(crate::specs::Words::is_reserved))]
+pub fn is_reserved(name: &[u8]) -> bool
+    ensures { result ≡ is_reserved name.now }
+{
+    name.starts_with(RESERVED)
+}
+
+/// Whether the word begins a declaration only before a name.
+pub fn wants_name(starter: Starter) -> bool
+    ensures { result ≡ wants_name starter }
+{
+    matches!(starter, Starter::Actor | Starter::Macro)
+}
+
+pub fn is_modifier(keyword: Keyword) -> bool
+    ensures { result ≡ is_modifier keyword }
+{
+    matches!(keyword, Keyword::Modifier | Keyword::AccessorModifier)
+}
+
+pub fn is_joining(keyword: Keyword) -> bool
+    ensures { result ≡ is_joining keyword }
+{
+    matches!(keyword, Keyword::Joining | Keyword::Where)
+}
+
+pub fn is_accessor(keyword: Keyword) -> bool
+    ensures { result ≡ is_accessor keyword }
+{
+    matches!(
+        keyword,
+        Keyword::Accessor | Keyword::Observer | Keyword::Starts(Starter::Init)
+    )
+}
+
+pub fn is_observer(keyword: Keyword) -> bool
+    ensures { result ≡ is_observer keyword }
+{
+    matches!(keyword, Keyword::Observer)
+}
+
+pub fn is_operator_name(keyword: Keyword) -> bool
+    ensures { result ≡ is_operator_name keyword }
+{
+    matches!(keyword, Keyword::Starts(Starter::Operator | Starter::Func))
+}
+
+pub fn is_class_member(keyword: Keyword) -> bool
+    ensures { result ≡ is_class_member keyword }
+{
+    matches!(
+        keyword,
+        Keyword::Starts(Starter::Func | Starter::Var | Starter::Let | Starter::Subscript)
+    )
+}
+
+pub fn is_class(keyword: Keyword) -> bool
+    ensures { result ≡ is_class keyword }
+{
+    matches!(keyword, Keyword::Starts(Starter::Class))
+}
+
+pub fn is_underscore(keyword: Keyword) -> bool
+    ensures { result ≡ is_underscore keyword }
+{
+    matches!(keyword, Keyword::Underscore)
+}
+
+pub fn is_where(keyword: Keyword) -> bool
+    ensures { result ≡ is_where keyword }
+{
+    matches!(keyword, Keyword::Where)
+}
+
+pub fn is_condition(keyword: Keyword) -> bool
+    ensures { result ≡ is_condition keyword }
+{
+    matches!(keyword, Keyword::Condition)
+}
+
+pub fn is_async(keyword: Keyword) -> bool
+    ensures { result ≡ is_async keyword }
+{
+    matches!(keyword, Keyword::Async)
+}
+
+pub fn is_throws(keyword: Keyword) -> bool
+    ensures { result ≡ is_throws keyword }
+{
+    matches!(keyword, Keyword::Throws)
+}
+
+pub fn is_accessor_modifier(keyword: Keyword) -> bool
+    ensures { result ≡ is_accessor_modifier keyword }
+{
+    matches!(keyword, Keyword::AccessorModifier)
+}
