@@ -1,6 +1,6 @@
 -- With what a declaration begins: attributes and modifiers in any order, then a starter.
 -- After The Swift Programming Language, Attributes and Declaration Modifiers; how far each goes is this project's own.
-use Rattle.std.specs.Prelude.{ℕ, zero, suc, ◌+◌, ◌-◌, ◌==◌, List, [], ◌∷◌, drop, Option, Some, None, Bool, true, false, ◌&&◌, ◌||◌, not, if◌then◌else◌}
+use Rattle.std.specs.Prelude.{ℕ, zero, suc, ◌+◌, ◌-◌, ◌==◌, min, List, [], ◌∷◌, length, drop, Option, Some, None, Bool, true, false, ◌&&◌, ◌||◌, not, if◌then◌else◌}
 use Rattle.swift_base.specs.declared.place.Span.{Span}
 use Rattle.element_marks.specs.declared.words.Keyword.{Keyword}
 use Rattle.element_marks.specs.declared.words.Keyword.TheVariants.{Starts}
@@ -26,9 +26,10 @@ unfoldable pub angles : List Mark → ℕ
 angles [] = 0
 angles (mark ∷ marks) = if mark.begins_angle then angles_from 0 0 0 (mark ∷ marks) else 0
 
+-- the angle part that the first element begins, where that is known, as far as the list goes
 abbrev pub first_angles : List Mark → ℕ
 first_angles [] = 0
-first_angles (mark ∷ marks) = mark.angles
+first_angles (mark ∷ marks) = min mark.angles (suc (length marks))
 
 abbrev pub first_is : (Mark → Bool) → List Mark → Bool
 first_is test [] = false

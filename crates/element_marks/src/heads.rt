@@ -113,17 +113,17 @@ pub fn dots_length(marks: &[Mark]) -> usize
 /// How many elements the angle part is that begins here.
 pub fn first_angles(marks: &[Mark]) -> usize
     ensures value { result ≡ first_angles marks.now }
-    ensures bound { result < 2 ^ 32 }
+    ensures bound { result ≤ length marks.now }
 {
     match marks.first() {
-        Some(mark) => mark.angles,
+        Some(mark) => mark.angles.min(marks.len()),
         None => 0,
     }
 }
 
 fn name_tail(marks: &[Mark]) -> usize
     ensures value { result ≡ name_tail marks.now }
-    ensures bound { result ≤ length marks.now + 2 ^ 32 }
+    ensures bound { result ≤ length marks.now + length marks.now + 3 }
 {
     let dots = dots_length(marks);
     let named = dots + first_angles(behind(marks, dots));
@@ -138,7 +138,7 @@ fn name_tail(marks: &[Mark]) -> usize
 #[tactic(auto, unfolding(crate::specs::Heads::attribute_length))]
 pub fn attribute_length(marks: &[Mark]) -> usize
     ensures value { result ≡ attribute_length marks.now }
-    ensures bound { result ≤ length marks.now + 2 ^ 32 }
+    ensures bound { result ≤ length marks.now + length marks.now + 3 }
 {
     let (Some(at), Some(name)) = (marks.first(), marks.get(1)) else {
         return 0;
@@ -185,7 +185,7 @@ fn modifier_length(marks: &[Mark]) -> usize
 /// How many elements the attribute or the modifier is that begins here; 0 where none does.
 pub fn prefix_length(marks: &[Mark]) -> usize
     ensures value { result ≡ prefix_length marks.now }
-    ensures bound { result ≤ length marks.now + 2 ^ 32 }
+    ensures bound { result ≤ length marks.now + length marks.now + 3 }
 {
     let attribute = attribute_length(marks);
     if attribute == 0 {
