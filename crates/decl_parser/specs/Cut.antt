@@ -1,108 +1,191 @@
 -- A list of elements cut into declarations: this project's own, after The Swift Programming Language, Declarations.
-use Rattle.std.specs.Prelude.{ℕ, zero, suc, ◌+◌, ◌-◌, ◌==◌, nat_lt, List, [], ◌∷◌, take, drop, length, Option, Some, None, Result, Ok, Err, Bool, true, false, ◌&&◌, ◌||◌, not, if◌then◌else◌, slice_index}
+use Rattle.std.specs.Prelude.{ℕ, zero, suc, ◌+◌, ◌-◌, ◌==◌, List, [], ◌∷◌, ◌++◌, reverse, take, drop, length, Option, Some, None, Result, Ok, Err, Bool, true, false, not, if◌then◌else◌}
 use Rattle.swift_base.specs.declared.place.Span.{Span}
 use Rattle.swift_tree.specs.declared.item.Kind.{Kind}
-use Rattle.swift_tree.specs.declared.item.Kind.TheVariants.{UseItem}
-use Rattle.swift_tree.specs.Outlines.{ItemSeen, item, ItemsSeen, none, cons}
+use Rattle.swift_tree.specs.declared.item.Kind.TheVariants as kind
+use Rattle.swift_tree.specs.Outlines.{ItemSeen, item, BlockSeen, block, no_block, ItemsSeen, none, cons}
+use Rattle.element_marks.specs.declared.mark.Mark.{Mark}
+use Rattle.element_marks.specs.declared.words.Keyword.{Keyword}
+use Rattle.element_marks.specs.declared.words.Keyword.TheVariants.{Starts}
+use Rattle.element_marks.specs.declared.words.Starter.{Starter}
+use Rattle.element_marks.specs.declared.words.Starter.TheVariants as starter
+use Rattle.element_marks.specs.Answers.{and_then}
+use Rattle.element_marks.specs.Sorts.{is_pound, is_builtin_pound, is_semicolon, is_braces}
+use Rattle.element_marks.specs.Heads.{by_length, first_is}
+use Rattle.element_marks.specs.Runs.{before, item_length, run_length}
+use Rattle.element_marks.specs.Uses.{use_length}
 use Rattle.decl_parser.specs.declared.fault.ParseFault.{ParseFault}
 use Rattle.decl_parser.specs.declared.fault.ParseKind.TheVariants.{NotADeclaration, BuiltinItem, AttributedUse, DanglingJoiner}
-use Rattle.decl_parser.specs.declared.mark.Mark.{Mark}
 use Rattle.decl_parser.specs.declared.place.Place.{Place}
-use Rattle.decl_parser.specs.declared.words.Keyword.{Keyword}
-use Rattle.decl_parser.specs.declared.words.Keyword.TheVariants.{Starter}
-use Rattle.decl_parser.specs.Faults.{fault, and_then}
+use Rattle.decl_parser.specs.declared.inside.Inside.{Inside}
+use Rattle.decl_parser.specs.declared.inside.BlockAt.{BlockAt}
+use Rattle.decl_parser.specs.declared.parts.Parts.{Parts}
+use Rattle.decl_parser.specs.Faults.{fault}
 use Rattle.decl_parser.specs.Places.{has_place}
-use Rattle.decl_parser.specs.Sorts.{is_pound, is_builtin_pound, is_semicolon}
-use Rattle.decl_parser.specs.Spans.{end_of}
-use Rattle.decl_parser.specs.Heads.{by_length}
-use Rattle.decl_parser.specs.Inside.{Seen, marks_of}
-use Rattle.decl_parser.specs.Uses.{use_length}
-use Rattle.decl_parser.specs.Found.{Blocks, found_from, own_attributes}
-use Rattle.decl_parser.specs.Parts.{Parts, parts}
+use Rattle.decl_parser.specs.Insides.{nothing_inside}
+use Rattle.decl_parser.specs.Attributes.{span_from}
+use Rattle.decl_parser.specs.Found.{Found, found_from}
+use Rattle.decl_parser.specs.Parts.{parts, has_members}
 
--- nothing of the declaration before stands here: a `;`, or a head that is first on its line and that nothing joins to the element before
-abbrev pub stops : Bool → Mark → Bool
-stops joined mark = is_semicolon mark || (mark.first && not (mark.head == 0) && not joined)
+-- the declarations in a group's braces, or their first fault
+abbrev pub MembersRead : Type 0
+MembersRead = Result ItemsSeen ParseFault
 
--- how many elements stand before the first that stops; `joined` where the element before them joins
-abbrev pub run_length : Bool → List Mark → ℕ
-run_length joined [] = 0
-run_length joined (mark ∷ marks) = if stops joined mark then 0 else suc (run_length mark.joins marks)
-
--- how many elements the declaration has that begins here with a head of so many elements
-abbrev pub item_length : ℕ → List Mark → ℕ
-item_length head marks = head + run_length false (drop head marks)
+-- the kind of declaration that a word begins
+abbrev pub word_kind : Starter → Kind
+word_kind starter.Import = kind.Import
+word_kind starter.Typealias = kind.Typealias
+word_kind starter.Associatedtype = kind.Associatedtype
+word_kind starter.Struct = kind.Struct
+word_kind starter.Class = kind.Class
+word_kind starter.Enum = kind.Enum
+word_kind starter.Protocol = kind.Protocol
+word_kind starter.Extension = kind.Extension
+word_kind starter.Func = kind.Func
+word_kind starter.Var = kind.Var
+word_kind starter.Let = kind.Let
+word_kind starter.Init = kind.Init
+word_kind starter.Deinit = kind.Deinit
+word_kind starter.Subscript = kind.Subscript
+word_kind starter.Case = kind.Case
+word_kind starter.Operator = kind.Operator
+word_kind starter.Precedencegroup = kind.Precedencegroup
+word_kind starter.Actor = kind.Actor
+word_kind starter.Macro = kind.Macro
 
 abbrev pub keyword_kind : Keyword → Kind
-keyword_kind (Starter kind) = kind
-keyword_kind _ = UseItem
+keyword_kind (Starts word) = word_kind word
+keyword_kind _ = kind.UseItem
 
 abbrev pub kind_of : Mark → Kind
-kind_of starter = if is_pound starter then UseItem else keyword_kind starter.keyword
+kind_of starter = if is_pound starter then kind.UseItem else keyword_kind starter.keyword
+
+abbrev pub start_of : List Mark → ℕ
+start_of [] = 0
+start_of (mark ∷ marks) = mark.start
+
+abbrev pub head_of : List Mark → ℕ
+head_of [] = 0
+head_of (mark ∷ marks) = mark.head
+
+-- the starter, which stands first, of a declaration that begins at `start` and has to have a place there
+abbrev pub placed : Place → ℕ → List Mark → Result Mark ParseFault
+placed place start [] = Err (fault start NotADeclaration)
+placed place start (starter ∷ marks) = if has_place place (kind_of starter) then Ok starter else Err (fault start NotADeclaration)
+
+abbrev pub starter_of : Place → List Mark → Result Mark ParseFault
+starter_of place own = placed place (start_of own) (drop (head_of own - 1) own)
 
 -- a macro use in a declaration's place has no attributes, no modifiers, and nothing behind it
-abbrev pub alone : List Seen → List ℕ → Result (List ℕ) ParseFault
-alone [] fine = Ok fine
-alone (s ∷ seen) fine = Err (fault s.mark.start NotADeclaration)
-
-abbrev pub use_fits : ℕ → Mark → Result (List ℕ) ParseFault
+abbrev pub use_fits : ℕ → Mark → Result (Unit {0}) ParseFault
 use_fits head starter =
-    if not (is_pound starter) then Ok []
+    if not (is_pound starter) then Ok tt
     else (if not (head == 1) then Err (fault starter.start AttributedUse)
-    else (if is_builtin_pound starter then Err (fault starter.start BuiltinItem) else Ok []))
+    else (if is_builtin_pound starter then Err (fault starter.start BuiltinItem) else Ok tt))
 
-abbrev pub use_ends : List Mark → Mark → List Seen → Result (List ℕ) ParseFault
-use_ends before starter seen = if is_pound starter then alone (drop (use_length [] before (marks_of seen)) seen) [] else Ok []
+abbrev pub nothing_more : List Mark → Result (Unit {0}) ParseFault
+nothing_more [] = Ok tt
+nothing_more (mark ∷ marks) = Err (fault mark.start NotADeclaration)
+
+abbrev pub use_ends : Mark → List Mark → ℕ → Result (Unit {0}) ParseFault
+use_ends starter list from =
+    if is_pound starter then nothing_more (drop (use_length [] (reverse (take from list)) (drop from list)) (drop from list)) else Ok tt
+
+-- nothing stands behind the braces at the place
+abbrev pub closed : Option ℕ → List Mark → Result (Unit {0}) ParseFault
+closed None marks = Ok tt
+closed (Some place) marks = nothing_more (drop (suc place) marks)
 
 -- the last element doesn't join
-abbrev pub ends : List Mark → Result (List ℕ) ParseFault
-ends [] = Ok []
-ends (mark ∷ []) = if mark.joins then Err (fault mark.start DanglingJoiner) else Ok []
+abbrev pub ends : List Mark → Result (Unit {0}) ParseFault
+ends [] = Ok tt
+ends (mark ∷ []) = if mark.joins then Err (fault mark.start DanglingJoiner) else Ok tt
 ends (mark ∷ next ∷ marks) = ends (next ∷ marks)
+
+-- where the braces of the members are among a declaration's elements
+abbrev pub members_place : Mark → ℕ → List Mark → Option ℕ
+members_place starter head own = if has_members (kind_of starter) then Some (head + before is_braces (drop head own)) else None
+
+abbrev pub first_members : List MembersRead → MembersRead
+first_members [] = Ok none
+first_members (members ∷ others) = members
+
+abbrev pub members_at : Option ℕ → List MembersRead → MembersRead
+members_at None members = Ok none
+members_at (Some place) members = first_members (drop place members)
+
+-- what stands inside the braces at the place is not looked at
+abbrev pub without : Option ℕ → List Inside → List Inside
+without None insides = insides
+without (Some place) insides = take place insides ++ (nothing_inside ∷ drop (suc place) insides)
+
+abbrev pub block_of : Option BlockAt → ItemsSeen → BlockSeen
+block_of None members = no_block
+block_of (Some at) members = block at.span at.shape members
 
 -- the end of a `;` that stands first, else this one
 abbrev pub after : ℕ → List Mark → ℕ
 after end [] = end
 after end (mark ∷ marks) = if is_semicolon mark then mark.end else end
 
--- the declaration by its elements, what follows them, and its parts
-abbrev pub assembled : List Mark → Mark → List Seen → Kind → ℕ → ℕ → Parts → ItemSeen
-assembled before first seen kind head count parts =
-    let end = end_of first.end (take count (marks_of seen)) in
-    let found = found_from (record { all = parts.blocks; members = parts.members }) head count 0 before seen in
+-- the declaration by its span, its parts and what was found in it
+abbrev pub assembled : Span → List Mark → Kind → Parts → Found → ItemsSeen → ItemSeen
+assembled span next kind parts found members =
     item (record {
-      span = record { start = first.start; end = end };
-      after = after end (drop count (marks_of seen));
+      span = span;
+      after = after span.end next;
       kind = kind;
-      attrs = own_attributes head 0 seen;
+      attrs = found.attrs;
       names = parts.names;
       bindings = parts.bindings;
       inherits = parts.inherits;
       extended = parts.extended;
       uses = found.uses;
       locals = found.locals;
-    }) parts.block
+    }) (block_of parts.block members)
 
--- by its head and its starter, the declaration that the first so many elements are, or its first fault
-abbrev pub item_by : Place → List Mark → Mark → List Seen → ℕ → ℕ → List Seen → Result ItemSeen ParseFault
-item_by place before first seen head count [] = Err (fault first.start NotADeclaration)
-item_by place before first seen head count (starter ∷ behind) =
-    if not (has_place place (kind_of starter.mark)) then Err (fault first.start NotADeclaration)
-    else and_then (use_fits head starter.mark) (λ fits.
-    and_then (parts (kind_of starter.mark) starter.mark (take (count - head) behind)) (λ parts.
-    and_then (use_ends before starter.mark (take count seen)) (λ alone.
-    and_then (ends (marks_of (take count seen))) (λ ended. Ok (assembled before first seen (kind_of starter.mark) head count parts)))))
+-- the declaration by its starter
+abbrev pub item_by : List Mark → ℕ → List Mark → List Inside → List MembersRead → Mark → Result ItemSeen ParseFault
+item_by list from next insides members starter =
+    let own = drop from list in
+    let head = head_of own in
+    let place = members_place starter head own in
+    let open = without place insides in
+    and_then (use_fits head starter) (λ fits.
+    and_then (parts (kind_of starter) starter (drop head own) (drop head open)) (λ parts.
+    and_then (members_at place members) (λ inner.
+    and_then (closed parts.body (drop head own)) (λ closes.
+    and_then (use_ends starter list from) (λ alone.
+    and_then (ends own) (λ ended.
+    Ok (assembled (span_from own) next (kind_of starter) parts (found_from parts.blocks (from + head) list from 0 (length own) open) inner)))))))
 
--- the declaration that begins with the first element; `before` are the elements before it, the nearest first
-abbrev pub item_at : Place → List Mark → Mark → List Seen → Result ItemSeen ParseFault
-item_at place before first seen = item_by place before first seen first.head (item_length first.head (marks_of seen)) (drop (first.head - 1) seen)
+-- the declaration from the place `from` to the end of `list`, or its first fault; `next` stands behind it.
+-- `insides` and `members` are those of its elements
+abbrev pub item_at : Place → List Mark → ℕ → List Mark → List Inside → List MembersRead → Result ItemSeen ParseFault
+item_at place list from next insides members = and_then (starter_of place (drop from list)) (λ starter. item_by list from next insides members starter)
 
--- the declarations that the elements are, past `inside` elements of one that began before, or the first fault
-abbrev pub items_from : Place → ℕ → List Mark → List Seen → Result ItemsSeen ParseFault
-items_from place inside before [] = Ok none
-items_from place (suc inside) before (s ∷ seen) = items_from place inside (s.mark ∷ before) seen
-items_from place zero before (s ∷ seen) =
-    if is_semicolon s.mark then items_from place 0 (s.mark ∷ before) seen
-    else by_length s.mark.head (Err (fault s.mark.start NotADeclaration)) (λ more.
-    and_then (item_at place before s.mark (s ∷ seen)) (λ first.
-    and_then (items_from place (more + run_length false (drop more (marks_of seen))) (s.mark ∷ before) seen) (λ others. Ok (cons first others))))
+-- where the declaration ends that begins at the place
+abbrev pub item_end : List Mark → ℕ → ℕ
+item_end marks at = at + item_length (head_of (drop at marks)) (drop at marks)
+
+-- the declaration that begins at the place
+abbrev pub one_item : Place → List Mark → List Inside → List MembersRead → ℕ → Result ItemSeen ParseFault
+one_item place marks insides members at =
+    item_at place (take (item_end marks at) marks) at (drop (item_end marks at) marks) (drop at insides) (drop at members)
+
+-- one declaration more
+abbrev pub with_first : Result ItemSeen ParseFault → MembersRead → MembersRead
+with_first one others = and_then one (λ first. and_then others (λ items. Ok (cons first items)))
+
+-- the declarations of a list from the place `at` on, where `left` elements are left, past `inside` elements of one that began before
+abbrev pub items_from : Place → List Mark → List Inside → List MembersRead → ℕ → ℕ → ℕ → MembersRead
+items_from place marks insides members at inside zero = Ok none
+items_from place marks insides members at (suc inside) (suc left) = items_from place marks insides members (suc at) inside left
+items_from place marks insides members at zero (suc left) =
+    if first_is is_semicolon (drop at marks) then items_from place marks insides members (suc at) 0 left
+    else by_length (head_of (drop at marks)) (Err (fault (start_of (drop at marks)) NotADeclaration)) (λ more.
+    with_first (one_item place marks insides members at) (items_from place marks insides members (suc at) (more + run_length false (drop (suc more) (drop at marks))) left))
+
+-- the declarations of a list, or the first fault
+unfoldable pub items_in : Place → List Mark → List Inside → List MembersRead → MembersRead
+items_in place marks insides members = items_from place marks insides members 0 0 (length marks)

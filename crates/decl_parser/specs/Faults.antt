@@ -1,5 +1,5 @@
 -- Faults of a text's tokens and brackets as faults of the text: this project's own.
-use Rattle.std.specs.Prelude.{ℕ, Result, Ok, Err}
+use Rattle.std.specs.Prelude.{ℕ}
 use Rattle.swift_lexer.specs.declared.token.LexKind.{LexKind}
 use Rattle.swift_lexer.specs.declared.token.LexKind.TheVariants as lex
 use Rattle.swift_lexer.specs.declared.element.GroupKind.{GroupKind}
@@ -24,8 +24,3 @@ group_kind group.TooDeep = kind.TooDeep
 
 abbrev pub fault : ℕ → ParseKind → ParseFault
 fault at kind = record { at = at; kind = kind }
-
--- what is read from a value, where there is one; the first fault counts
-abbrev pub and_then : {A B F : Type 0} → Result A F → (A → Result B F) → Result B F
-and_then (Ok value) next = next value
-and_then (Err found) next = Err found

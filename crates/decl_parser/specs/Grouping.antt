@@ -8,7 +8,7 @@ use Rattle.swift_lexer.specs.declared.element.GroupKind.TheVariants.{Unopened, U
 use Rattle.swift_lexer.specs.declared.element.TheConstants.{DEEPEST}
 use Rattle.swift_lexer.specs.Trees.{Tree, Forest, leaf, nest, none, cons, closes}
 use Rattle.swift_lexer.specs.Groups.{Level, GroupOutcome}
-use Rattle.decl_parser.specs.Faults.{and_then}
+use Rattle.element_marks.specs.Answers.{and_then}
 
 -- one tree more
 abbrev pub with_last : Forest → Tree → Forest

@@ -14,9 +14,9 @@ use Rattle.swift_tree.specs.Outlines.{OutlineSeen}
 use Rattle.decl_parser.specs.declared.fault.ParseFault.{ParseFault}
 use Rattle.decl_parser.specs.declared.fault.ParseKind.TheVariants.{SourceTooLarge, ReservedWord}
 use Rattle.decl_parser.specs.declared.parse.TheConstants.{LONGEST_SOURCE}
-use Rattle.decl_parser.specs.Faults.{fault, lex_kind, group_kind, and_then}
-use Rattle.decl_parser.specs.Words.{is_reserved}
-use Rattle.decl_parser.specs.Levels.{seen_of}
+use Rattle.decl_parser.specs.Faults.{fault, lex_kind, group_kind}
+use Rattle.element_marks.specs.Answers.{and_then}
+use Rattle.element_marks.specs.Words.{is_reserved}
 use Rattle.decl_parser.specs.Fragments.{by_shape}
 use Rattle.decl_parser.specs.Grouping.{groups_of}
 
@@ -45,7 +45,7 @@ allowed text shape.File tokens = unreserved text tokens
 allowed text _ tokens = Ok []
 
 abbrev pub grouped : List ℕ → Shape → List Token → GroupOutcome → OutlineOutcome
-grouped text shape tokens (Ok forest) = and_then (allowed text shape tokens) (λ fine. by_shape text shape (seen_of text forest))
+grouped text shape tokens (Ok forest) = and_then (allowed text shape tokens) (λ fine. by_shape text shape forest)
 grouped text shape tokens (Err found) = Err (fault found.at (group_kind found.kind))
 
 abbrev pub lexed : List ℕ → Shape → Outcome → OutlineOutcome

@@ -1,8 +1,10 @@
 // Why a text has no outline.
 
 ghost use Rattle.std.specs.Prelude.{◌≡◌};
+ghost use Rattle.swift_base.specs.declared.refusal.Refusal.TheVariants.{Fault};
 ghost use Rattle.decl_parser.specs.Faults.{group_kind, lex_kind};
 
+use swift_base::Refusal;
 use swift_lexer::{GroupKind, LexKind};
 
 /// The kinds of fault of a text.
@@ -71,4 +73,11 @@ pub fn of_grouping(kind: GroupKind) -> ParseKind
         GroupKind::Mismatched => ParseKind::Mismatched,
         GroupKind::TooDeep => ParseKind::TooDeep,
     }
+}
+
+/// The fault of that kind at the offset.
+pub fn fault(at: u32, kind: ParseKind) -> Refusal<ParseFault>
+    ensures { result ≡ Fault (record { at = at; kind = kind }) }
+{
+    Refusal::Fault(ParseFault { at, kind })
 }

@@ -1,18 +1,22 @@
 // Attributes, accessors and expressions as whole texts.
 
-ghost use Rattle.std.specs.Prelude.{◌≡◌};
+ghost use Rattle.std.specs.Prelude.{◌≡◌, IfOk};
+ghost use Rattle.swift_lexer.specs.Trees.{forest_of};
+ghost use Rattle.swift_tree.specs.Outlines.{outline_of};
+ghost use Rattle.element_marks.specs.Answers.{Answers};
+ghost use Rattle.decl_parser.specs.Fragments.{all_of, attributes_from, bare, by_shape, expression};
 
-use crate::accessors::accessor_words;
-use crate::fault::{ParseFault, ParseKind};
-use crate::heads::{attribute_length, behind};
-use crate::inherits::whole;
+use crate::attributes::{attr_of, span_from};
+use crate::fault::{ParseFault, ParseKind, fault};
+use crate::found::{Findings, found_in};
+use crate::inside::Inside;
 use crate::items::items;
-use crate::level::{Level, marks_in};
-use crate::mark::Mark;
-use crate::parts::fault;
+use crate::levels::insides;
+use crate::lists::behind;
 use crate::place::Place;
-use crate::sorts::{is_braces, is_semicolon};
-use crate::uses::{Found, attr_of, find_inside};
+use element_marks::{
+    Mark, accessor_words, attribute_length, between, is_braces, is_semicolon, marks_in,
+};
 use std::alloc::{AllocError, Global};
 use swift_base::{Listed, Refusal, Span, Text};
 use swift_lexer::Element;
@@ -24,67 +28,88 @@ pub fn by_shape(
     text: &[u8],
     shape: Shape,
     elements: &[Element],
-) -> Result<Outline, Refusal<ParseFault>> {
-    let mut outline = bare(alloc, text, shape)?;
+) -> Result<Outline, Refusal<ParseFault>>
+    ensures { Answers outline_of result (λ outcome. outcome ≡ by_shape text.now shape (forest_of elements.now)) }
+{
     match shape {
-        Shape::File => outline.items = items(alloc, text, elements, Place::File)?,
-        Shape::Items => outline.items = items(alloc, text, elements, Place::Anywhere)?,
-        Shape::Attributes => attributes(alloc, text, elements, &mut outline)?,
-        Shape::Accessors => accessors(alloc, text, elements, &mut outline)?,
-        Shape::Expression => expression(alloc, text, elements, &mut outline)?,
+        Shape::File => declarations(alloc, text, shape, elements, Place::File),
+        Shape::Items => declarations(alloc, text, shape, elements, Place::Anywhere),
+        Shape::Attributes => attributes(alloc, text, elements),
+        Shape::Accessors => accessors(alloc, text, elements),
+        Shape::Expression => expression(alloc, text, elements),
     }
-    Ok(outline)
 }
 
-/// An outline with nothing in it, of which the whole text is spliced.
-fn bare(alloc: Global, text: &[u8], shape: Shape) -> Result<Outline, AllocError> {
+fn all_of(text: &[u8]) -> Span {
+    Span {
+        start: 0,
+        end: text.len() as u32,
+    }
+}
+
+/// An outline with nothing in it, of which that part is spliced.
+fn bare(alloc: Global, text: &[u8], shape: Shape, inside: Span) -> Result<Outline, AllocError>
+    ensures { IfOk result (λ outline. outline_of outline ≡ bare text.now shape inside) }
+{
     Ok(Outline {
         text: Text::from_bytes(alloc, text)?,
         shape,
         items: Vec::new(alloc),
         attrs: Listed::from_vec(Vec::new(alloc)),
         accessors: Listed::from_vec(Vec::new(alloc)),
-        inside: Span {
-            start: 0,
-            end: text.len() as u32,
-        },
+        inside,
         uses: Listed::from_vec(Vec::new(alloc)),
         locals: Listed::from_vec(Vec::new(alloc)),
     })
 }
 
-/// From the first token to the last; where there is none, the text's beginning.
-fn tokens_span(marks: &[Mark]) -> Span {
-    whole(marks).unwrap_or(Span { start: 0, end: 0 })
+fn declarations(
+    alloc: Global,
+    text: &[u8],
+    shape: Shape,
+    elements: &[Element],
+    place: Place,
+) -> Result<Outline, Refusal<ParseFault>> {
+    let items = items(alloc, text, elements, place)?;
+    let mut outline = bare(alloc, text, shape, all_of(text))?;
+    outline.items = items;
+    Ok(outline)
 }
 
 fn attributes(
     alloc: Global,
     text: &[u8],
     elements: &[Element],
-    outline: &mut Outline,
-) -> Result<(), Refusal<ParseFault>> {
+) -> Result<Outline, Refusal<ParseFault>> {
     let marks = marks_in(alloc, text, elements)?;
-    let list = Level {
-        text,
-        elements,
-        marks: &marks,
-    };
-    let mut attrs: Vec<Attr> = Vec::new(alloc);
+    let insides = insides(alloc, text, elements)?;
+    let attrs = attributes_in(alloc, &marks, &insides)?;
+    let mut outline = bare(alloc, text, Shape::Attributes, span_from(&marks))?;
+    outline.attrs = Listed::from_vec(attrs);
+    Ok(outline)
+}
+
+/// The attributes that the elements are.
+fn attributes_in(
+    alloc: Global,
+    marks: &[Mark],
+    insides: &[Inside],
+) -> Result<Vec<Attr>, Refusal<ParseFault>>
+    ensures { Answers (λ attrs. attrs.items) result (λ outcome. outcome ≡ attributes_from 0 marks.now insides.now) }
+{
+    let mut attrs = Vec::new(alloc);
     let mut at = 0;
     'attributes: while let Some(mark) = marks.get(at) {
-        let length = attribute_length(behind(&marks, at));
+        let rest = behind(marks, at);
+        let length = attribute_length(rest);
         if length == 0 {
             return Err(fault(mark.start, ParseKind::NotAnAttribute));
         }
-        if let Some(attr) = attr_of(alloc, list.behind(at))? {
-            attrs.push(attr).map_err(AllocError::from)?;
-        }
+        let attr = attr_of(alloc, rest, behind(insides, at))?;
+        attrs.push(attr).map_err(AllocError::from)?;
         at += length;
     }
-    outline.attrs = Listed::from_vec(attrs);
-    outline.inside = tokens_span(&marks);
-    Ok(())
+    Ok(attrs)
 }
 
 /// Accessors in the text, or in the one pair of braces that it is.
@@ -92,32 +117,63 @@ fn accessors(
     alloc: Global,
     text: &[u8],
     elements: &[Element],
-    outline: &mut Outline,
-) -> Result<(), Refusal<ParseFault>> {
+) -> Result<Outline, Refusal<ParseFault>> {
     let marks = marks_in(alloc, text, elements)?;
-    let words = match (marks.first(), elements) {
-        (
-            Some(braces),
-            [
-                Element::Nest {
-                    left: _,
-                    inner,
-                    right: _,
-                },
-            ],
-        ) if is_braces(braces) => {
-            outline.inside = Span {
-                start: braces.start + 1,
-                end: braces.end - 1,
-            };
-            let marks = marks_in(alloc, text, inner)?;
-            accessor_words(alloc, &marks)?
-        }
-        _ => accessor_words(alloc, &marks)?,
-    };
+    let words = words_in(alloc, text, elements, &marks)?;
+    let mut outline = bare(
+        alloc,
+        text,
+        Shape::Accessors,
+        accessors_inside(text, elements, &marks),
+    )?;
     outline.accessors = Listed::from_vec(words);
-    find_all(alloc, text, elements, outline)?;
-    Ok(())
+    add_found(alloc, text, elements, &marks, &mut outline)?;
+    Ok(outline)
+}
+
+fn accessors_inside(text: &[u8], elements: &[Element], marks: &[Mark]) -> Span {
+    match (marks.first(), one_group(elements)) {
+        (Some(braces), Some(_)) if is_braces(braces) => between(braces),
+        _ => all_of(text),
+    }
+}
+
+/// What stands inside the one group that the elements are.
+fn one_group(elements: &[Element]) -> Option<&[Element]> {
+    match elements {
+        [
+            Element::Nest {
+                left: _,
+                inner,
+                right: _,
+            },
+        ] => Some(inner),
+        _ => None,
+    }
+}
+
+/// The words of the accessors in the text, or in the one pair of braces that it is.
+fn words_in(
+    alloc: Global,
+    text: &[u8],
+    elements: &[Element],
+    marks: &[Mark],
+) -> Result<Vec<Span>, Refusal<ParseFault>> {
+    match (marks.first(), one_group(elements)) {
+        (Some(braces), Some(inner)) if is_braces(braces) => {
+            let inner = marks_in(alloc, text, inner)?;
+            words_of(alloc, &inner)
+        }
+        _ => words_of(alloc, marks),
+    }
+}
+
+fn words_of(alloc: Global, marks: &[Mark]) -> Result<Vec<Span>, Refusal<ParseFault>> {
+    match accessor_words(alloc, marks) {
+        Ok(words) => Ok(words),
+        Err(Refusal::Memory) => Err(Refusal::Memory),
+        Err(Refusal::Fault(at)) => Err(fault(at, ParseKind::NotAnAccessor)),
+    }
 }
 
 /// An expression has an element, and no `;` among its elements.
@@ -125,38 +181,42 @@ fn expression(
     alloc: Global,
     text: &[u8],
     elements: &[Element],
-    outline: &mut Outline,
-) -> Result<(), Refusal<ParseFault>> {
+) -> Result<Outline, Refusal<ParseFault>> {
     let marks = marks_in(alloc, text, elements)?;
+    expressed(&marks)?;
+    let mut outline = bare(alloc, text, Shape::Expression, span_from(&marks))?;
+    add_found(alloc, text, elements, &marks, &mut outline)?;
+    Ok(outline)
+}
+
+fn expressed(marks: &[Mark]) -> Result<(), Refusal<ParseFault>>
+    ensures { Answers (λ fine. fine) result (λ outcome. outcome ≡ expression marks.now) }
+{
     if marks.is_empty() {
         return Err(fault(0, ParseKind::Empty));
     }
-    if let Some(semicolon) = marks.iter().find(|mark| is_semicolon(mark)) {
-        return Err(fault(semicolon.start, ParseKind::NotAnExpression));
+    'elements: for mark in marks {
+        if is_semicolon(mark) {
+            return Err(fault(mark.start, ParseKind::NotAnExpression));
+        }
     }
-    outline.inside = tokens_span(&marks);
-    find_all(alloc, text, elements, outline)?;
     Ok(())
 }
 
-/// The uses and attributes of the whole text.
-fn find_all(
+/// Sets the uses and the attributes of the whole text.
+fn add_found(
     alloc: Global,
     text: &[u8],
     elements: &[Element],
+    marks: &[Mark],
     outline: &mut Outline,
 ) -> Result<(), AllocError> {
-    let mut found = Found {
-        uses: Vec::new(alloc),
-        locals: Vec::new(alloc),
-        with_locals: true,
-    };
-    find_inside(alloc, text, elements, &mut found)?;
-    let Found {
+    let insides = insides(alloc, text, elements)?;
+    let Findings {
+        attrs: _,
         uses,
         locals,
-        with_locals: _,
-    } = found;
+    } = found_in(alloc, marks, &insides)?;
     outline.uses = Listed::from_vec(uses);
     outline.locals = Listed::from_vec(locals);
     Ok(())

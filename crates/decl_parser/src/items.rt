@@ -1,43 +1,54 @@
-// A list of elements cut into declarations.
+// Lists of elements cut into declarations.
 
-ghost use Rattle.std.specs.Prelude.{◌≡◌, false};
-ghost use Rattle.decl_parser.specs.Cut.{item_length, kind_of, run_length};
+ghost use Rattle.std.specs.Prelude.{◌≡◌, ◌≤◌, IfOk, drop, length, take};
+ghost use Rattle.swift_lexer.specs.Trees.{forest_of};
+ghost use Rattle.swift_tree.specs.Outlines.{item_of, items_of};
+ghost use Rattle.element_marks.specs.Answers.{Answers};
+ghost use Rattle.decl_parser.specs.Cut.{after, closed, ends, head_of, item_at, kind_of, members_place, nothing_more, start_of, starter_of, use_ends, use_fits, word_kind};
+ghost use Rattle.decl_parser.specs.Levels.{insides, items_of_list, members};
 
-use crate::fault::{ParseFault, ParseKind};
-use crate::heads::behind;
-use crate::level::{Level, marks_in};
-use crate::mark::Mark;
-use crate::parts::{Parts, fault, parts_of};
+use crate::attributes::span_from;
+use crate::fault::{ParseFault, ParseKind, fault};
+use crate::found::{Findings, Search, found};
+use crate::inside::{BlockAt, Inside};
+use crate::levels::insides_without;
+use crate::lists::{behind, upto};
+use crate::parts::{Parts, has_members, parts_of};
 use crate::place::{Place, has_place};
-use crate::sorts::{is_builtin_pound, is_pound, is_semicolon};
-use crate::uses::{Found, find, own_attributes, use_length};
-use crate::words::Keyword;
+use element_marks::{
+    Keyword, Mark, Starter, before_braces, is_builtin_pound, is_pound, is_semicolon, item_length,
+    marks_in, use_length,
+};
 use std::alloc::{AllocError, Global};
 use swift_base::{Listed, Refusal, Span};
 use swift_lexer::Element;
-use swift_tree::{Item, Kind};
+use swift_tree::{Block, Item, Kind};
 
-/// How many elements stand before the first at which the declaration before has ended.
-fn run_length(marks: &[Mark]) -> usize
-    ensures { result ≡ run_length false marks.now }
+/// The kind of declaration that a word begins.
+fn word_kind(starter: Starter) -> Kind
+    ensures { result ≡ word_kind starter }
 {
-    let mut joined = false;
-    let mut count = 0;
-    'elements: for mark in marks {
-        if is_semicolon(mark) || (mark.first && mark.head > 0 && !joined) {
-            return count;
-        }
-        joined = mark.joins;
-        count += 1;
+    match starter {
+        Starter::Import => Kind::Import,
+        Starter::Typealias => Kind::Typealias,
+        Starter::Associatedtype => Kind::Associatedtype,
+        Starter::Struct => Kind::Struct,
+        Starter::Class => Kind::Class,
+        Starter::Enum => Kind::Enum,
+        Starter::Protocol => Kind::Protocol,
+        Starter::Extension => Kind::Extension,
+        Starter::Func => Kind::Func,
+        Starter::Var => Kind::Var,
+        Starter::Let => Kind::Let,
+        Starter::Init => Kind::Init,
+        Starter::Deinit => Kind::Deinit,
+        Starter::Subscript => Kind::Subscript,
+        Starter::Case => Kind::Case,
+        Starter::Operator => Kind::Operator,
+        Starter::Precedencegroup => Kind::Precedencegroup,
+        Starter::Actor => Kind::Actor,
+        Starter::Macro => Kind::Macro,
     }
-    count
-}
-
-/// How many elements the declaration has that begins here with a head of so many.
-fn item_length(head: usize, marks: &[Mark]) -> usize
-    ensures { result ≡ item_length head marks.now }
-{
-    head + run_length(behind(marks, head))
 }
 
 fn kind_of(starter: &Mark) -> Kind
@@ -47,9 +58,18 @@ fn kind_of(starter: &Mark) -> Kind
         return Kind::UseItem;
     }
     match starter.keyword {
-        Keyword::Starter(kind) => kind,
+        Keyword::Starts(word) => word_kind(word),
         _ => Kind::UseItem,
     }
+}
+
+/// A declaration's elements: the last of `list`, from the place `from` on.
+#[derive(Clone, Copy)]
+struct Own<'a> {
+    text: &'a [u8],
+    list: &'a [Mark],
+    from: usize,
+    elements: &'a [Element],
 }
 
 /// The declarations that the elements are, or the first fault.
@@ -59,13 +79,10 @@ pub fn items(
     text: &[u8],
     elements: &[Element],
     place: Place,
-) -> Result<Vec<Item>, Refusal<ParseFault>> {
+) -> Result<Vec<Item>, Refusal<ParseFault>>
+    ensures { Answers (λ items. items_of items.items) result (λ outcome. outcome ≡ items_of_list place text.now (forest_of elements.now)) }
+{
     let marks = marks_in(alloc, text, elements)?;
-    let list = Level {
-        text,
-        elements,
-        marks: &marks,
-    };
     let mut items = Vec::new(alloc);
     let mut at = 0;
     'items: while let Some(mark) = marks.get(at) {
@@ -74,8 +91,14 @@ pub fn items(
         } else if mark.head == 0 {
             return Err(fault(mark.start, ParseKind::NotADeclaration));
         } else {
-            let count = item_length(mark.head as usize, behind(&marks, at));
-            let item = item_at(alloc, list, (at, at + count), place)?;
+            let count = item_length(mark.head, behind(&marks, at));
+            let own = Own {
+                text,
+                list: upto(&marks, at + count),
+                from: at,
+                elements: upto(behind(elements, at), count),
+            };
+            let item = item_at(alloc, own, behind(&marks, at + count), place)?;
             items.push(item).map_err(AllocError::from)?;
             at += count;
         }
@@ -83,35 +106,93 @@ pub fn items(
     Ok(items)
 }
 
-/// The declaration that the elements of the range are, or its first fault.
+/// The declaration that the elements are, or its first fault; `next` stands behind it.
 #[cycle(items)]
 fn item_at(
     alloc: Global,
-    list: Level,
-    range: (usize, usize),
+    own: Own,
+    next: &[Mark],
     place: Place,
 ) -> Result<Item, Refusal<ParseFault>> {
-    let own = list.upto(range.1).behind(range.0);
-    let Some(first) = own.marks.first() else {
-        return Err(fault(0, ParseKind::NotADeclaration));
+    let marks = behind(own.list, own.from);
+    let starter = starter_of(place, marks)?;
+    let head = head_of(marks);
+    let kind = kind_of(&starter);
+    let braces = members_place(&starter, head, marks);
+    use_fits(head, &starter)?;
+    let insides = insides_without(alloc, own.text, own.elements, braces)?;
+    let parts = parts_of(
+        alloc,
+        kind,
+        &starter,
+        behind(marks, head),
+        behind(&insides, head),
+    )?;
+    let members = match braces {
+        Some(at) => items(alloc, own.text, inside_at(own.elements, at), Place::Members)?,
+        None => Vec::new(alloc),
     };
-    let head = first.head as usize;
-    let Some(starter) = own.marks.get(head.saturating_sub(1)) else {
-        return Err(fault(first.start, ParseKind::NotADeclaration));
-    };
-    let kind = kind_of(starter);
-    if !has_place(place, kind) {
-        return Err(fault(first.start, ParseKind::NotADeclaration));
+    closed(parts.body, behind(marks, head))?;
+    use_ends(&starter, own.list, own.from)?;
+    ends(marks)?;
+    Ok(assembled(alloc, own, next, kind, parts, &insides, members)?)
+}
+
+/// What stands inside the brackets of the element at the place.
+fn inside_at(elements: &[Element], at: usize) -> &[Element] {
+    match elements.get(at) {
+        Some(
+            Element::Nest {
+                left: _,
+                inner,
+                right: _,
+            },
+        ) => inner,
+        _ => &[],
     }
-    use_fits(head, starter)?;
-    let parts = parts_of(alloc, kind, *starter, own.behind(head))?;
-    use_ends(starter, list.upto(range.0).marks, own.marks)?;
-    ends(own.marks)?;
-    Ok(assembled(alloc, list, range, head, kind, parts)?)
+}
+
+fn head_of(own: &[Mark]) -> usize
+    ensures { result ≡ head_of own.now }
+{
+    match own.first() {
+        Some(first) => first.head,
+        None => 0,
+    }
+}
+
+fn start_of(own: &[Mark]) -> u32
+    ensures { result ≡ start_of own.now }
+{
+    match own.first() {
+        Some(first) => first.start,
+        None => 0,
+    }
+}
+
+/// The starter of a declaration, which has to have a place there.
+fn starter_of(place: Place, own: &[Mark]) -> Result<Mark, Refusal<ParseFault>>
+    ensures { Answers (λ starter. starter) result (λ outcome. outcome ≡ starter_of place own.now) }
+{
+    match behind(own, head_of(own).saturating_sub(1)).first() {
+        Some(starter) if has_place(place, kind_of(starter)) => Ok(*starter),
+        _ => Err(fault(start_of(own), ParseKind::NotADeclaration)),
+    }
+}
+
+/// Where the braces of the members are among a declaration's elements.
+fn members_place(starter: &Mark, head: usize, own: &[Mark]) -> Option<usize> {
+    if has_members(kind_of(starter)) {
+        Some(head + before_braces(behind(own, head)))
+    } else {
+        None
+    }
 }
 
 /// A macro use in a declaration's place has no attributes and no modifiers.
-fn use_fits(head: usize, starter: &Mark) -> Result<(), Refusal<ParseFault>> {
+fn use_fits(head: usize, starter: &Mark) -> Result<(), Refusal<ParseFault>>
+    ensures { Answers (λ fits. fits) result (λ outcome. outcome ≡ use_fits head starter.now) }
+{
     if !is_pound(starter) {
         return Ok(());
     }
@@ -124,81 +205,111 @@ fn use_fits(head: usize, starter: &Mark) -> Result<(), Refusal<ParseFault>> {
     Ok(())
 }
 
-/// Nothing stands behind a macro use in a declaration's place.
-fn use_ends(starter: &Mark, before: &[Mark], own: &[Mark]) -> Result<(), Refusal<ParseFault>> {
-    if !is_pound(starter) {
-        return Ok(());
-    }
-    match own.get(use_length(&[], before, own)) {
+fn nothing_more(marks: &[Mark]) -> Result<(), Refusal<ParseFault>>
+    ensures { Answers (λ fine. fine) result (λ outcome. outcome ≡ nothing_more marks.now) }
+{
+    match marks.first() {
         Some(mark) => Err(fault(mark.start, ParseKind::NotADeclaration)),
         None => Ok(()),
     }
 }
 
+/// Nothing stands behind a macro use in a declaration's place.
+fn use_ends(starter: &Mark, list: &[Mark], from: usize) -> Result<(), Refusal<ParseFault>>
+    ensures { Answers (λ fine. fine) result (λ outcome. outcome ≡ use_ends starter.now list.now from) }
+{
+    if !is_pound(starter) {
+        return Ok(());
+    }
+    let own = behind(list, from);
+    nothing_more(behind(own, use_length(&[], upto(list, from), own)))
+}
+
+/// Nothing stands behind the braces at the place.
+fn closed(place: Option<usize>, marks: &[Mark]) -> Result<(), Refusal<ParseFault>>
+    ensures { Answers (λ fine. fine) result (λ outcome. outcome ≡ closed place marks.now) }
+{
+    match place {
+        Some(place) => nothing_more(behind(behind(marks, place), 1)),
+        None => Ok(()),
+    }
+}
+
 /// The last element doesn't join.
-fn ends(own: &[Mark]) -> Result<(), Refusal<ParseFault>> {
+fn ends(own: &[Mark]) -> Result<(), Refusal<ParseFault>>
+    ensures { Answers (λ fine. fine) result (λ outcome. outcome ≡ ends own.now) }
+{
     match own.last() {
         Some(mark) if mark.joins => Err(fault(mark.start, ParseKind::DanglingJoiner)),
         _ => Ok(()),
     }
 }
 
-/// The declaration by its elements and its parts.
+/// The end of a `;` that stands first, else this one.
+fn after(end: u32, next: &[Mark]) -> u32
+    ensures { result ≡ after end next.now }
+{
+    match next.first() {
+        Some(mark) if is_semicolon(mark) => mark.end,
+        _ => end,
+    }
+}
+
+fn block_of(block: Option<BlockAt>, members: Vec<Item>) -> Option<Block> {
+    let BlockAt { span, shape } = block?;
+    Some(Block {
+        span,
+        shape,
+        members,
+    })
+}
+
+/// The declaration by its elements, its parts and its members.
 fn assembled(
     alloc: Global,
-    list: Level,
-    range: (usize, usize),
-    head: usize,
+    own: Own,
+    next: &[Mark],
     kind: Kind,
     parts: Parts,
+    insides: &[Inside],
+    members: Vec<Item>,
 ) -> Result<Item, AllocError> {
+    let marks = behind(own.list, own.from);
+    let Findings {
+        attrs,
+        uses,
+        locals,
+    } = found(
+        alloc,
+        Search {
+            list: own.list,
+            from: own.from,
+            own: own.from + head_of(marks),
+            blocks: parts.blocks.items(),
+            insides,
+        },
+    )?;
+    let span = span_from(marks);
     let Parts {
         names,
         bindings,
         inherits,
         extended,
         block,
-        blocks,
+        body: _,
+        blocks: _,
     } = parts;
-    let own = list.behind(range.0);
-    let attrs = own_attributes(alloc, own, head)?;
-    let mut found = Found {
-        uses: Vec::new(alloc),
-        locals: Vec::new(alloc),
-        with_locals: true,
-    };
-    find(alloc, list, range, range.0 + head, &blocks, &mut found)?;
-    let Found {
-        uses,
-        locals,
-        with_locals: _,
-    } = found;
-    let span = span_between(list.upto(range.1).behind(range.0).marks);
-    let after = match list.marks.get(range.1) {
-        Some(next) if is_semicolon(next) => next.end,
-        _ => span.end,
-    };
     Ok(Item {
         span,
-        after,
+        after: after(span.end, next),
         kind,
         attrs: Listed::from_vec(attrs),
-        names: Listed::from_vec(names),
-        bindings: Listed::from_vec(bindings),
-        block,
-        inherits: Listed::from_vec(inherits),
+        names,
+        bindings,
+        block: block_of(block, members),
+        inherits,
         extended,
         uses: Listed::from_vec(uses),
         locals: Listed::from_vec(locals),
     })
-}
-
-fn span_between(marks: &[Mark]) -> Span {
-    match (marks.first(), marks.last()) {
-        (Some(first), Some(last)) => Span {
-            start: first.start,
-            end: last.end,
-        },
-        _ => Span { start: 0, end: 0 },
-    }
 }

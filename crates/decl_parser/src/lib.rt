@@ -3,22 +3,18 @@
 // What the declarations mean is left to the crates above.
 #![tactic(auto)]
 
-mod accessors;
+mod attributes;
 mod bindings;
 mod fault;
+mod found;
 mod fragments;
-mod heads;
-mod inherits;
+mod inside;
 mod items;
-mod level;
-mod mark;
-mod marks;
+mod levels;
+mod lists;
 mod parse;
 mod parts;
 mod place;
-mod sorts;
-mod uses;
-mod words;
 
 pub use fault::{ParseFault, ParseKind};
 pub use parse::{

@@ -2,14 +2,12 @@
 
 ghost use Rattle.swift_tree.specs.Outlines.{outline_of};
 ghost use Rattle.swift_tree.specs.declared.outline.Shape.TheVariants as shape;
-ghost use Rattle.decl_parser.specs.Answers.{Answers};
+ghost use Rattle.element_marks.specs.Answers.{Answers};
 ghost use Rattle.decl_parser.specs.Outline.{IsOutline};
 
-use crate::fault::{ParseFault, ParseKind, of_grouping, of_lexing};
+use crate::fault::{ParseFault, ParseKind, fault, of_grouping, of_lexing};
 use crate::fragments::by_shape;
-use crate::marks::part;
-use crate::parts::fault;
-use crate::words::is_reserved;
+use element_marks::{is_reserved, part};
 use std::alloc::Global;
 use swift_base::Refusal;
 use swift_lexer::{Class, Element, GroupFault, LexFault, Token, group, lex};

@@ -1,271 +1,346 @@
 // The parts of a declaration by its kind.
 
-ghost use Rattle.std.specs.Prelude.{◌≡◌};
+ghost use Rattle.std.specs.Prelude.{◌≡◌, IfOk, Some};
+ghost use Rattle.element_marks.specs.Answers.{Answers};
+ghost use Rattle.decl_parser.specs.Parts.{all_blocks, all_names, case_names, code, first_name, function_name, has_members, last_block, named, names_only, of_case, of_extension, of_function, of_type, of_variable, operator_name, parts, with_members};
 
-use crate::accessors::lists_accessors;
-use crate::bindings::{Bound, bindings, place_of};
-use crate::fault::{ParseFault, ParseKind};
-use crate::heads::behind;
-use crate::inherits::{Stop, inherited, length_before, name_of, span_of, whole};
-use crate::items::items;
-use crate::level::{Level, marks_in};
-use crate::mark::Mark;
-use crate::place::Place;
-use crate::sorts::{is_braces, is_comma, is_name, is_operator, is_word};
-use crate::uses::Blocks;
+use crate::bindings::{Bound, bindings};
+use crate::fault::{ParseFault, ParseKind, fault};
+use crate::inside::{BlockAt, Inside, block_here};
+use crate::lists::{behind, upto};
+use element_marks::{
+    Mark, Stop, before_braces, inherited, is_comma, is_name, is_operator, is_word, length_before,
+    name_of, span_of, whole,
+};
 use std::alloc::{AllocError, Global};
 use swift_base::{Listed, Refusal, Span};
-use swift_tree::{Binding, Block, BlockShape, Kind};
+use swift_tree::{Binding, BlockShape, Kind};
 
-/// What a declaration has behind its starter.
-#[derive(Drop)]
+/// What a declaration has behind its starter, but for what stands inside its members' braces.
+#[derive(Debug, Drop)]
 pub struct Parts {
-    pub names: Vec<Span>,
-    pub bindings: Vec<Binding>,
-    pub inherits: Vec<Span>,
+    pub names: Listed<Span>,
+    pub bindings: Listed<Binding>,
+    pub inherits: Listed<Span>,
     pub extended: Option<Span>,
-    pub block: Option<Block>,
-    pub blocks: Blocks,
+    pub block: Option<BlockAt>,
+    /// How many elements stand before the braces behind which nothing may stand.
+    pub body: Option<usize>,
+    /// Where the braces begin that are blocks.
+    pub blocks: Listed<u32>,
 }
 
-pub fn fault(at: u32, kind: ParseKind) -> Refusal<ParseFault> {
-    Refusal::Fault(ParseFault { at, kind })
-}
-
-fn add<T: Drop>(list: &mut Vec<T>, value: T) -> Result<(), AllocError> {
+/// A list of one.
+fn one<T: Drop>(alloc: Global, value: T) -> Result<Listed<T>, AllocError> {
+    let mut list = Vec::new(alloc);
     list.push(value)?;
-    Ok(())
+    Ok(Listed::from_vec(list))
 }
 
-fn nothing(alloc: Global) -> Parts {
+fn none<T>(alloc: Global) -> Listed<T> {
+    Listed::from_vec(Vec::new(alloc))
+}
+
+/// Names and nothing else.
+fn names_only(alloc: Global, names: Listed<Span>) -> Parts
+    ensures { result ≡ names_only names }
+{
     Parts {
-        names: Vec::new(alloc),
-        bindings: Vec::new(alloc),
-        inherits: Vec::new(alloc),
+        names,
+        bindings: none(alloc),
+        inherits: none(alloc),
         extended: None,
         block: None,
-        blocks: Blocks {
-            all: Vec::new(alloc),
-            members: None,
-        },
+        body: None,
+        blocks: none(alloc),
     }
 }
 
 /// The parts of a declaration of the kind, by its starter and the elements behind that.
-#[cycle(items)]
 pub fn parts_of(
     alloc: Global,
     kind: Kind,
-    starter: Mark,
-    elements: Level,
-) -> Result<Parts, Refusal<ParseFault>> {
+    starter: &Mark,
+    marks: &[Mark],
+    insides: &[Inside],
+) -> Result<Parts, Refusal<ParseFault>>
+    ensures { Answers (λ parts. parts) result (λ outcome. outcome ≡ parts kind starter.now marks.now insides.now) }
+{
     match kind {
-        Kind::Import | Kind::Operator | Kind::Precedencegroup | Kind::UseItem => Ok(nothing(alloc)),
-        Kind::Typealias | Kind::Associatedtype | Kind::Macro => named(alloc, starter, elements),
-        Kind::Struct | Kind::Class | Kind::Enum | Kind::Protocol | Kind::Actor => {
-            of_type(alloc, starter, elements)
+        Kind::Import | Kind::Operator | Kind::Precedencegroup | Kind::UseItem => {
+            Ok(names_only(alloc, none(alloc)))
         }
-        Kind::Extension => of_extension(alloc, starter, elements),
-        Kind::Func => of_function(alloc, starter, elements),
-        Kind::Init | Kind::Deinit => code(alloc, span_of(&starter), false, elements),
-        Kind::Subscript => code(alloc, span_of(&starter), true, elements),
-        Kind::Var | Kind::Let => of_variable(alloc, starter, elements),
-        Kind::Case => of_case(alloc, starter, elements),
+        Kind::Typealias | Kind::Associatedtype | Kind::Macro => named(alloc, starter, marks),
+        Kind::Struct | Kind::Class | Kind::Enum | Kind::Protocol | Kind::Actor => {
+            of_type(alloc, starter, marks)
+        }
+        Kind::Extension => of_extension(alloc, starter, marks),
+        Kind::Func => of_function(alloc, starter, marks, insides),
+        Kind::Init | Kind::Deinit => Ok(code(alloc, false, span_of(starter), marks, insides)?),
+        Kind::Subscript => Ok(code(alloc, true, span_of(starter), marks, insides)?),
+        Kind::Var | Kind::Let => of_variable(alloc, starter, marks, insides),
+        Kind::Case => of_case(alloc, starter, marks),
     }
 }
 
+/// Whether the block of a declaration of the kind holds declarations.
+pub fn has_members(kind: Kind) -> bool
+    ensures { result ≡ has_members kind }
+{
+    matches!(
+        kind,
+        Kind::Struct | Kind::Class | Kind::Enum | Kind::Protocol | Kind::Extension | Kind::Actor
+    )
+}
+
 /// The name that has to stand first.
-fn first_name(starter: Mark, elements: Level) -> Result<Span, Refusal<ParseFault>> {
-    match elements.marks.first() {
+fn first_name(starter: &Mark, marks: &[Mark]) -> Result<Span, Refusal<ParseFault>>
+    ensures { Answers (λ name. name) result (λ outcome. outcome ≡ first_name starter.now marks.now) }
+{
+    match marks.first() {
         Some(name) if is_name(name) => Ok(name_of(name)),
         _ => Err(fault(starter.start, ParseKind::MissingName)),
     }
 }
 
-fn named(alloc: Global, starter: Mark, elements: Level) -> Result<Parts, Refusal<ParseFault>> {
-    let name = first_name(starter, elements)?;
-    let mut parts = nothing(alloc);
-    add(&mut parts.names, name)?;
-    Ok(parts)
+fn named(alloc: Global, starter: &Mark, marks: &[Mark]) -> Result<Parts, Refusal<ParseFault>>
+    ensures { Answers (λ parts. parts) result (λ outcome. outcome ≡ named starter.now marks.now) }
+{
+    let name = first_name(starter, marks)?;
+    Ok(names_only(alloc, one(alloc, name)?))
 }
 
-/// Nothing stands behind so many elements.
-fn ends_behind(elements: Level, count: usize) -> Result<(), Refusal<ParseFault>> {
-    match elements.marks.get(count) {
-        Some(mark) => Err(fault(mark.start, ParseKind::NotADeclaration)),
-        None => Ok(()),
-    }
+fn of_type(alloc: Global, starter: &Mark, marks: &[Mark]) -> Result<Parts, Refusal<ParseFault>>
+    ensures { Answers (λ parts. parts) result (λ outcome. outcome ≡ of_type starter.now marks.now) }
+{
+    let name = first_name(starter, marks)?;
+    let place = before_braces(marks);
+    let names = one(alloc, name)?;
+    let clause = behind(upto(marks, place), 1);
+    with_members(
+        alloc,
+        starter,
+        names,
+        None,
+        clause,
+        place,
+        behind(marks, place),
+    )
 }
 
-#[cycle(items)]
-fn of_type(alloc: Global, starter: Mark, elements: Level) -> Result<Parts, Refusal<ParseFault>> {
-    let name = first_name(starter, elements)?;
-    let mut parts = with_members(alloc, starter, elements.behind(1))?;
-    add(&mut parts.names, name)?;
-    Ok(parts)
-}
-
-#[cycle(items)]
-fn of_extension(
-    alloc: Global,
-    starter: Mark,
-    elements: Level,
-) -> Result<Parts, Refusal<ParseFault>> {
-    let length = length_before(Stop::Extended, elements.marks);
-    let extended = whole(elements.upto(length).marks);
-    if extended.is_none() {
+fn of_extension(alloc: Global, starter: &Mark, marks: &[Mark]) -> Result<Parts, Refusal<ParseFault>>
+    ensures { Answers (λ parts. parts) result (λ outcome. outcome ≡ of_extension starter.now marks.now) }
+{
+    let Some(extended) = whole(upto(marks, length_before(Stop::Extended, marks))) else {
         return Err(fault(starter.start, ParseKind::MissingName));
-    }
-    let mut parts = with_members(alloc, starter, elements)?;
-    parts.extended = extended;
-    Ok(parts)
+    };
+    let place = before_braces(marks);
+    let clause = upto(marks, place);
+    with_members(
+        alloc,
+        starter,
+        none(alloc),
+        Some(extended),
+        clause,
+        place,
+        behind(marks, place),
+    )
 }
 
-/// What a type inherits from, and its members.
-#[cycle(items)]
+/// A type or an extension by its names, what it extends, what stands between its name and its braces, the place of
+/// these, and what stands from there on.
 fn with_members(
     alloc: Global,
-    starter: Mark,
-    elements: Level,
-) -> Result<Parts, Refusal<ParseFault>> {
-    let Some(place) = place_of(elements.marks, is_braces) else {
+    starter: &Mark,
+    names: Listed<Span>,
+    extended: Option<Span>,
+    clause: &[Mark],
+    place: usize,
+    marks: &[Mark],
+) -> Result<Parts, Refusal<ParseFault>>
+    ensures { Answers (λ parts. parts) result (λ outcome. outcome ≡ with_members starter.now names extended clause.now place marks.now) }
+{
+    let Some(braces) = marks.first() else {
         return Err(fault(starter.start, ParseKind::MissingBlock));
     };
-    let Some(braces) = elements.marks.get(place) else {
-        return Err(fault(starter.start, ParseKind::MissingBlock));
-    };
-    let members = items(alloc, elements.text, elements.inside(place), Place::Members)?;
-    ends_behind(elements, place + 1)?;
-    let mut parts = nothing(alloc);
-    parts.inherits = inherited(alloc, elements.upto(place).marks)?;
-    parts.block = Some(Block {
-        span: span_of(braces),
-        shape: BlockShape::Members,
-        members,
-    });
-    add(&mut parts.blocks.all, braces.start)?;
-    parts.blocks.members = Some(braces.start);
-    Ok(parts)
+    Ok(Parts {
+        names,
+        bindings: none(alloc),
+        inherits: Listed::from_vec(inherited(alloc, clause)?),
+        extended,
+        block: Some(BlockAt {
+            span: span_of(braces),
+            shape: BlockShape::Members,
+        }),
+        body: Some(place),
+        blocks: one(alloc, braces.start)?,
+    })
 }
 
 /// The name of a function, which may be an operator.
-fn function_name(starter: Mark, elements: Level) -> Result<Span, Refusal<ParseFault>> {
-    match elements.marks.first() {
+fn function_name(starter: &Mark, marks: &[Mark]) -> Result<Span, Refusal<ParseFault>>
+    ensures { Answers (λ name. name) result (λ outcome. outcome ≡ function_name starter.now marks.now) }
+{
+    match marks.first() {
         Some(name) if is_name(name) => Ok(name_of(name)),
-        Some(name) if is_operator(name) => Ok(operator_name(name, behind(elements.marks, 1))),
+        Some(name) if is_operator(name) => Ok(operator_name(name, behind(marks, 1))),
         _ => Err(fault(starter.start, ParseKind::MissingName)),
     }
 }
 
 /// A last `<` directly before a word begins the generic parameters.
-fn operator_name(name: &Mark, rest: &[Mark]) -> Span {
-    let mut span = span_of(name);
-    if let Some(next) = rest.first() {
-        if name.ends_angle && is_word(next) && !next.spaced {
-            span.end -= 1;
-        }
+fn operator_name(name: &Mark, marks: &[Mark]) -> Span
+    ensures { result ≡ operator_name name.now marks.now }
+{
+    match marks.first() {
+        Some(next) if name.ends_angle && is_word(next) && !next.spaced => Span {
+            start: name.start,
+            end: name.end.saturating_sub(1),
+        },
+        _ => span_of(name),
     }
-    span
 }
 
 fn of_function(
     alloc: Global,
-    starter: Mark,
-    elements: Level,
-) -> Result<Parts, Refusal<ParseFault>> {
-    let name = function_name(starter, elements)?;
-    code(alloc, name, false, elements.behind(1))
+    starter: &Mark,
+    marks: &[Mark],
+    insides: &[Inside],
+) -> Result<Parts, Refusal<ParseFault>>
+    ensures { Answers (λ parts. parts) result (λ outcome. outcome ≡ of_function starter.now marks.now insides.now) }
+{
+    let name = function_name(starter, marks)?;
+    Ok(code(alloc, false, name, marks, insides)?)
 }
 
-/// A function by its name, from there on.
+/// A function by its name.
 fn code(
     alloc: Global,
+    may_list: bool,
     name: Span,
-    may_list: bool,
-    elements: Level,
-) -> Result<Parts, Refusal<ParseFault>> {
-    let mut parts = nothing(alloc);
-    add(&mut parts.names, name)?;
-    if let Some(place) = place_of(elements.marks, is_braces) {
-        ends_behind(elements, place + 1)?;
-        parts.block = code_block(alloc, elements, place, may_list)?;
-        if let Some(braces) = elements.marks.get(place) {
-            add(&mut parts.blocks.all, braces.start)?;
-        }
-    }
-    Ok(parts)
-}
-
-/// A block of statements, or of accessors where it may list such.
-fn code_block(
-    alloc: Global,
-    elements: Level,
-    place: usize,
-    may_list: bool,
-) -> Result<Option<Block>, AllocError> {
-    let Some(braces) = elements.marks.get(place) else {
-        return Ok(None);
+    marks: &[Mark],
+    insides: &[Inside],
+) -> Result<Parts, AllocError>
+    ensures { IfOk result (λ parts. parts ≡ code may_list name marks.now insides.now) }
+{
+    let place = before_braces(marks);
+    let names = one(alloc, name)?;
+    let Some(braces) = marks.get(place) else {
+        return Ok(names_only(alloc, names));
     };
-    let mut shape = BlockShape::Body;
-    if may_list {
-        let marks = marks_in(alloc, elements.text, elements.inside(place))?;
-        if lists_accessors(&marks) {
-            shape = BlockShape::Accessors;
-        }
-    }
-    Ok(Some(Block {
-        span: span_of(braces),
-        shape,
-        members: Vec::new(alloc),
-    }))
+    Ok(Parts {
+        names,
+        bindings: none(alloc),
+        inherits: none(alloc),
+        extended: None,
+        block: block_here(may_list, behind(marks, place), behind(insides, place)),
+        body: Some(place),
+        blocks: one(alloc, braces.start)?,
+    })
 }
 
 fn of_variable(
     alloc: Global,
-    starter: Mark,
-    elements: Level,
-) -> Result<Parts, Refusal<ParseFault>> {
-    let bounds = bindings(alloc, starter.start, elements)?;
-    let mut parts = nothing(alloc);
-    for bound in bounds {
-        let Bound { binding, block } = bound;
-        for name in binding.names.items() {
-            add(&mut parts.names, *name)?;
-        }
-        parts.bindings.push(binding).map_err(AllocError::from)?;
-        parts.block = None;
-        if let Some(place) = block {
-            parts.block = code_block(alloc, elements, place, true)?;
-            if let Some(braces) = elements.marks.get(place) {
-                add(&mut parts.blocks.all, braces.start)?;
-            }
+    starter: &Mark,
+    marks: &[Mark],
+    insides: &[Inside],
+) -> Result<Parts, Refusal<ParseFault>>
+    ensures { Answers (λ parts. parts) result (λ outcome. outcome ≡ of_variable starter.now marks.now insides.now) }
+{
+    let bounds = bindings(alloc, starter.start, marks, insides)?;
+    let names = all_names(alloc, &bounds)?;
+    let blocks = all_blocks(alloc, &bounds)?;
+    let block = last_block(&bounds);
+    Ok(Parts {
+        names: Listed::from_vec(names),
+        bindings: Listed::from_vec(only_bindings(alloc, bounds)?),
+        inherits: none(alloc),
+        extended: None,
+        block,
+        body: None,
+        blocks: Listed::from_vec(blocks),
+    })
+}
+
+fn all_names(alloc: Global, bounds: &[Bound]) -> Result<Vec<Span>, AllocError>
+    ensures { IfOk result (λ names. names.items ≡ all_names bounds.now) }
+{
+    let mut names = Vec::new(alloc);
+    'bounds: for bound in bounds {
+        names.extend_from_slice(bound.binding.names.items())?;
+    }
+    Ok(names)
+}
+
+fn all_blocks(alloc: Global, bounds: &[Bound]) -> Result<Vec<u32>, AllocError>
+    ensures { IfOk result (λ blocks. blocks.items ≡ all_blocks bounds.now) }
+{
+    let mut blocks = Vec::new(alloc);
+    'bounds: for bound in bounds {
+        if let Some(block) = bound.block {
+            blocks.push(block.span.start)?;
         }
     }
-    Ok(parts)
+    Ok(blocks)
+}
+
+fn last_block(bounds: &[Bound]) -> Option<BlockAt>
+    ensures { result ≡ last_block bounds.now }
+{
+    bounds.last()?.block
+}
+
+fn only_bindings(alloc: Global, bounds: Vec<Bound>) -> Result<Vec<Binding>, AllocError> {
+    let mut bindings = Vec::new(alloc);
+    for bound in bounds {
+        let Bound { binding, block: _ } = bound;
+        bindings.push(binding)?;
+    }
+    Ok(bindings)
 }
 
 /// The names behind `case` and behind each comma.
-fn of_case(alloc: Global, starter: Mark, elements: Level) -> Result<Parts, Refusal<ParseFault>> {
-    let mut parts = nothing(alloc);
-    let mut anchor = Some(starter.start);
-    'elements: for mark in elements.marks {
-        match anchor {
-            Some(at) => {
-                if !is_name(mark) {
-                    return Err(fault(at, ParseKind::MissingName));
-                }
-                add(&mut parts.names, name_of(mark))?;
-                anchor = None;
-            }
-            None => {
-                if is_comma(mark) {
-                    anchor = Some(mark.start);
-                }
-            }
-        }
+fn of_case(alloc: Global, starter: &Mark, marks: &[Mark]) -> Result<Parts, Refusal<ParseFault>>
+    ensures { Answers (λ parts. parts) result (λ outcome. outcome ≡ of_case starter.now marks.now) }
+{
+    let names = case_names(alloc, starter.start, marks)?;
+    Ok(names_only(alloc, Listed::from_vec(names)))
+}
+
+fn case_names(alloc: Global, anchor: u32, marks: &[Mark]) -> Result<Vec<Span>, Refusal<ParseFault>>
+    ensures { Answers (λ names. names.items) result (λ outcome. outcome ≡ case_names (Some anchor) marks.now) }
+{
+    let mut names = Vec::new(alloc);
+    let mut anchor = Some(anchor);
+    'elements: for mark in marks {
+        anchor = case_step(&mut names, anchor, mark)?;
     }
     match anchor {
         Some(at) => Err(fault(at, ParseKind::MissingName)),
-        None => Ok(parts),
+        None => Ok(names),
+    }
+}
+
+/// The offset of the `case` or the comma behind which the next element has to be a name.
+fn case_step(
+    names: &mut Vec<Span>,
+    anchor: Option<u32>,
+    mark: &Mark,
+) -> Result<Option<u32>, Refusal<ParseFault>> {
+    match anchor {
+        None => Ok(comma_start(mark)),
+        Some(_) if is_name(mark) => {
+            names.push(name_of(mark)).map_err(AllocError::from)?;
+            Ok(None)
+        }
+        Some(at) => Err(fault(at, ParseKind::MissingName)),
+    }
+}
+
+fn comma_start(mark: &Mark) -> Option<u32> {
+    if is_comma(mark) {
+        Some(mark.start)
+    } else {
+        None
     }
 }

@@ -1,6 +1,0 @@
-use Rattle.std.proofs.Common.{◌≡◌, ◌+◌, drop, false}
-use Rattle.decl_parser.specs.Accessors.{effects_length}
-use Rattle.decl_parser.proofs.accessors.effects_length.Given as goal
-
-abbrev pub invariant-effects : goal.invariant-effects
-invariant-effects l = (l.count + effects_length l.throwing (drop l.mark-index l.marks) ≡ effects_length false l.marks) × (l.count ≡ l.mark-index)

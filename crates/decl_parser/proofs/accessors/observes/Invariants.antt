@@ -1,9 +1,0 @@
-use Rattle.std.proofs.Common.{◌≡◌, ◌-◌, drop, length}
-use Rattle.decl_parser.specs.Accessors.{observes_from}
-use Rattle.decl_parser.proofs.accessors.observes.Given as goal
-
-abbrev pub invariant-prefix : goal.invariant-prefix
-invariant-prefix l = observes_from 0 (drop l.at l.marks) ≡ observes_from 0 l.marks
-
-abbrev pub decreases-prefix : goal.decreases-prefix
-decreases-prefix l = length l.marks - l.at

@@ -1,9 +1,0 @@
-use Rattle.std.proofs.Common.{◌≡◌, ◌+◌, length}
-use Rattle.decl_parser.specs.Heads.{dots_length}
-use Rattle.decl_parser.proofs.heads.dots_length.Given as goal
-
-abbrev pub invariant-dots : goal.invariant-dots
-invariant-dots l = (l.count + dots_length l.rest ≡ dots_length l.fn.marks) × (l.count + length l.rest ≡ length l.fn.marks)
-
-abbrev pub decreases-dots : goal.decreases-dots
-decreases-dots l = length l.rest

@@ -1,6 +1,0 @@
-use Rattle.std.proofs.Common.{◌≡◌, ◌+◌, ◌*◌, ◌^◌, ◌≤◌, drop}
-use Rattle.decl_parser.specs.Inherits.{length_before}
-use Rattle.decl_parser.proofs.inherits.length_before.Given as goal
-
-abbrev pub invariant-elements : goal.invariant-elements
-invariant-elements l = (l.count + length_before l.stop l.opened l.closed (drop l.mark-index l.marks) ≡ length_before l.stop 0 0 l.marks) × (l.count ≡ l.mark-index) × (l.opened ≤ l.mark-index * 2 ^ 32) × (l.closed ≤ l.mark-index * 2 ^ 32)

@@ -1,6 +1,0 @@
-use Rattle.std.proofs.Common.{◌≡◌, ◌+◌, drop, false}
-use Rattle.decl_parser.specs.Cut.{run_length}
-use Rattle.decl_parser.proofs.items.run_length.Given as goal
-
-abbrev pub invariant-elements : goal.invariant-elements
-invariant-elements l = (l.count + run_length l.joined (drop l.mark-index l.marks) ≡ run_length false l.marks) × (l.count ≡ l.mark-index)

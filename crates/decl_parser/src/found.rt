@@ -1,0 +1,106 @@
+// The macro uses and the attributes of elements, at every depth.
+
+ghost use Rattle.std.specs.Prelude.{◌≡◌, ◌-◌, ◌≤◌, IfOk, length};
+ghost use Rattle.decl_parser.specs.Found.{Found, found_from, found_in, found_step, joined};
+
+use crate::attributes::{attr_of, copy_of, use_of};
+use crate::inside::{Inside, first_locals, first_uses};
+use crate::lists::{behind, upto};
+use element_marks::{Mark, attribute_length, use_length};
+use std::alloc::{AllocError, Global};
+use swift_tree::{Attr, MacroUse};
+
+/// The attributes of the declaration itself, and the uses and the attributes in it.
+#[derive(Drop)]
+pub struct Findings {
+    pub attrs: Vec<Attr>,
+    pub uses: Vec<MacroUse>,
+    pub locals: Vec<Attr>,
+}
+
+/// Where is looked for what.
+#[derive(Clone, Copy)]
+pub struct Search<'a> {
+    /// The elements, up to the last that is looked through.
+    pub list: &'a [Mark],
+    /// The place of the first that is looked through.
+    pub from: usize,
+    /// Attributes that begin before this place are the declaration's own.
+    pub own: usize,
+    /// Where the braces begin that are blocks of the declaration.
+    pub blocks: &'a [u32],
+    /// What stands inside the elements that are looked through.
+    pub insides: &'a [Inside],
+}
+
+/// What is found in the last elements of a list.
+pub fn found(alloc: Global, search: Search) -> Result<Findings, AllocError>
+    requires { search.from ≤ length search.list.now }
+    ensures { IfOk result (λ findings. seen findings ≡ found_from search.blocks.now search.own search.list.now search.from 0 (length search.list.now - search.from) search.insides.now) }
+{
+    let mut findings = Findings {
+        attrs: Vec::new(alloc),
+        uses: Vec::new(alloc),
+        locals: Vec::new(alloc),
+    };
+    let mut at = search.from;
+    'elements: while at < search.list.len() {
+        at += step(alloc, search, at, &mut findings)?;
+    }
+    Ok(findings)
+}
+
+/// What is found in a whole list.
+pub fn found_in(alloc: Global, marks: &[Mark], insides: &[Inside]) -> Result<Findings, AllocError>
+    ensures { IfOk result (λ findings. seen findings ≡ found_in marks.now insides.now) }
+{
+    found(
+        alloc,
+        Search {
+            list: marks,
+            from: 0,
+            own: 0,
+            blocks: &[],
+            insides,
+        },
+    )
+}
+
+/// Adds what begins at the place, and answers how many elements it is.
+fn step(
+    alloc: Global,
+    search: Search,
+    at: usize,
+    findings: &mut Findings,
+) -> Result<usize, AllocError> {
+    let marks = behind(search.list, at);
+    let insides = behind(search.insides, at - search.from);
+    let used = use_length(search.blocks, upto(search.list, at), marks);
+    if used > 0 {
+        findings.uses.push(use_of(upto(marks, used)))?;
+        return Ok(used);
+    }
+    let length = attribute_length(marks);
+    if length > 0 && at < search.own {
+        findings.attrs.push(attr_of(alloc, marks, insides)?)?;
+        return Ok(length);
+    }
+    if length > 0 {
+        findings.locals.push(attr_of(alloc, marks, insides)?)?;
+    }
+    add_inside(alloc, insides, findings)?;
+    Ok(1)
+}
+
+/// Adds what stands inside the first element.
+fn add_inside(
+    alloc: Global,
+    insides: &[Inside],
+    findings: &mut Findings,
+) -> Result<(), AllocError> {
+    findings.uses.extend_from_slice(first_uses(insides))?;
+    for attr in first_locals(insides) {
+        findings.locals.push(copy_of(alloc, attr)?)?;
+    }
+    Ok(())
+}

@@ -1,0 +1,78 @@
+// What stands inside each element of a list, at every depth.
+
+ghost use Rattle.std.specs.Prelude.{◌≡◌, IfOk};
+ghost use Rattle.swift_lexer.specs.Trees.{forest_of};
+ghost use Rattle.decl_parser.specs.Cut.{without};
+ghost use Rattle.decl_parser.specs.Levels.{insides, read_inside};
+
+use crate::bindings::names_inside;
+use crate::found::{Findings, found_in};
+use crate::inside::{Inside, nothing_inside};
+use element_marks::{Mark, lists_accessors, marks_in, observes};
+use std::alloc::{AllocError, Global};
+use swift_base::Listed;
+use swift_lexer::Element;
+
+/// What stands inside each element.
+pub fn insides(alloc: Global, text: &[u8], elements: &[Element]) -> Result<Vec<Inside>, AllocError>
+    ensures { IfOk result (λ list. list.items ≡ insides text.now (forest_of elements.now)) }
+{
+    let mut list = Vec::new(alloc);
+    for element in elements {
+        let inside = match element {
+            Element::Leaf(_) => nothing_inside(alloc),
+            Element::Nest {
+                left: _,
+                inner,
+                right: _,
+            } => {
+                let marks = marks_in(alloc, text, inner)?;
+                let inner = insides(alloc, text, inner)?;
+                read_inside(alloc, &marks, &inner)?
+            }
+        };
+        list.push(inside)?;
+    }
+    Ok(list)
+}
+
+/// The same, where that is not looked at which stands inside the element at the place.
+pub fn insides_without(
+    alloc: Global,
+    text: &[u8],
+    elements: &[Element],
+    place: Option<usize>,
+) -> Result<Vec<Inside>, AllocError>
+    ensures { IfOk result (λ list. list.items ≡ without place (insides text.now (forest_of elements.now))) }
+{
+    let Some(place) = place else {
+        return insides(alloc, text, elements);
+    };
+    let place = elements.len().min(place);
+    let behind = elements.len().min(place + 1);
+    let mut list = insides(alloc, text, &elements[..place])?;
+    list.push(nothing_inside(alloc))?;
+    let others = insides(alloc, text, &elements[behind..])?;
+    for inside in others {
+        list.push(inside)?;
+    }
+    Ok(list)
+}
+
+/// What stands inside a group, by the elements of its list.
+fn read_inside(alloc: Global, marks: &[Mark], insides: &[Inside]) -> Result<Inside, AllocError>
+    ensures { IfOk result (λ inside. inside ≡ read_inside marks.now insides.now) }
+{
+    let Findings {
+        attrs: _,
+        uses,
+        locals,
+    } = found_in(alloc, marks, insides)?;
+    Ok(Inside {
+        names: Listed::from_vec(names_inside(alloc, marks, insides)?),
+        observes: observes(marks),
+        lists_accessors: lists_accessors(marks),
+        uses: Listed::from_vec(uses),
+        locals: Listed::from_vec(locals),
+    })
+}
