@@ -6,6 +6,7 @@ use Rattle.element_marks.specs.declared.mark.Mark.{Mark}
 use Rattle.element_marks.specs.Heads.{by_length, attribute_length}
 use Rattle.element_marks.specs.Uses.{use_length}
 use Rattle.decl_parser.specs.declared.inside.Inside.{Inside}
+use Rattle.decl_parser.specs.declared.found.Findings.{Findings}
 use Rattle.decl_parser.specs.Insides.{first_inside}
 use Rattle.decl_parser.specs.Attributes.{use_of, attr_of}
 
@@ -14,6 +15,10 @@ pub record Found : Type 0 where
   pub attrs : List Attr
   pub uses : List MacroUse
   pub locals : List Attr
+
+-- what a call found
+abbrev pub seen : Findings → Found
+seen findings = record { attrs = findings.attrs.items; uses = findings.uses.items; locals = findings.locals.items }
 
 abbrev pub nothing : Found
 nothing = record { attrs = []; uses = []; locals = [] }

@@ -1,7 +1,7 @@
 // The macro uses and the attributes of elements, at every depth.
 
 ghost use Rattle.std.specs.Prelude.{◌≡◌, ◌-◌, ◌≤◌, IfOk, length};
-ghost use Rattle.decl_parser.specs.Found.{Found, found_from, found_in, found_step, joined};
+ghost use Rattle.decl_parser.specs.Found.{found_from, found_in, found_step, joined, seen};
 
 use crate::attributes::{attr_of, copy_of, use_of};
 use crate::inside::{Inside, first_locals, first_uses};
