@@ -150,14 +150,14 @@ item_by list from next insides members starter =
     let own = drop from list in
     let head = head_of own in
     let place = members_place starter head own in
-    let open = without place insides in
+    let outside = without place insides in
     and_then (use_fits head starter) (λ fits.
-    and_then (parts (kind_of starter) starter (drop head own) (drop head open)) (λ parts.
+    and_then (parts (kind_of starter) starter (drop head own) (drop head outside)) (λ parts.
     and_then (members_at place members) (λ inner.
     and_then (closed parts.body (drop head own)) (λ closes.
     and_then (use_ends starter list from) (λ alone.
     and_then (ends own) (λ ended.
-    Ok (assembled (span_from own) next (kind_of starter) parts (found_from parts.blocks (from + head) list from 0 (length own) open) inner)))))))
+    Ok (assembled (span_from own) next (kind_of starter) parts (found_from parts.blocks (from + head) list from 0 (length own) outside) inner)))))))
 
 -- the declaration from the place `from` to the end of `list`, or its first fault; `next` stands behind it.
 -- `insides` and `members` are those of its elements

@@ -6,7 +6,7 @@ use Rattle.swift_tree.specs.declared.item.Attr.{Attr}
 use Rattle.swift_tree.specs.declared.outline.Shape.{Shape}
 use Rattle.swift_tree.specs.declared.outline.Shape.TheVariants as shape
 use Rattle.swift_tree.specs.Outlines.{OutlineSeen}
-use Rattle.swift_tree.specs.Outlines.{none} as seen
+use Rattle.swift_tree.specs.Outlines as seen
 use Rattle.element_marks.specs.declared.mark.Mark.{Mark}
 use Rattle.element_marks.specs.Answers.{and_then}
 use Rattle.element_marks.specs.Sorts.{is_braces, is_semicolon}

@@ -1,6 +1,6 @@
 -- What stands inside each group, at every depth: this project's own words.
 use Rattle.std.specs.Prelude.{ℕ, List, [], ◌∷◌, Ok}
-use Rattle.swift_tree.specs.Outlines.{none} as seen
+use Rattle.swift_tree.specs.Outlines as seen
 use Rattle.swift_lexer.specs.Trees.{Tree, Forest, leaf, nest, none, cons}
 use Rattle.element_marks.specs.declared.mark.Mark.{Mark}
 use Rattle.element_marks.specs.Levels.{level}

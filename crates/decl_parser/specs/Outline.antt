@@ -5,7 +5,7 @@ use Rattle.swift_lexer.specs.declared.token.Class.{Class}
 use Rattle.swift_lexer.specs.declared.token.Class.TheVariants.{Word, Quoted}
 use Rattle.swift_lexer.specs.declared.token.Token.{Token}
 use Rattle.swift_lexer.specs.Tokens.{Outcome, IsLexed}
-use Rattle.swift_lexer.specs.Trees.{Forest}
+use Rattle.swift_lexer.specs.Trees.{Forest, forest_tokens}
 use Rattle.swift_lexer.specs.Groups.{GroupOutcome, IsGrouped}
 use Rattle.swift_lexer.proofs.SomeOutcome.{some_token_outcome}
 use Rattle.swift_tree.specs.declared.outline.Shape.{Shape}
@@ -44,17 +44,24 @@ abbrev pub allowed : List ℕ → Shape → List Token → Result (List Token) P
 allowed text shape.File tokens = unreserved text tokens
 allowed text _ tokens = Ok []
 
-abbrev pub grouped : List ℕ → Shape → List Token → GroupOutcome → OutlineOutcome
-grouped text shape tokens (Ok forest) = and_then (allowed text shape tokens) (λ fine. by_shape text shape forest)
-grouped text shape tokens (Err found) = Err (fault found.at (group_kind found.kind))
+abbrev pub grouped : GroupOutcome → Result Forest ParseFault
+grouped (Ok forest) = Ok forest
+grouped (Err found) = Err (fault found.at (group_kind found.kind))
 
-abbrev pub lexed : List ℕ → Shape → Outcome → OutlineOutcome
-lexed text shape (Ok tokens) = grouped text shape tokens (groups_of text tokens)
-lexed text shape (Err found) = Err (fault found.at (lex_kind found.kind))
+abbrev pub lexed : List ℕ → Outcome → Result Forest ParseFault
+lexed text (Ok tokens) = grouped (groups_of text tokens)
+lexed text (Err found) = Err (fault found.at (lex_kind found.kind))
+
+-- the elements of a text, or the first fault of its tokens, and then of its brackets
+unfoldable pub elements_of : List ℕ → Result Forest ParseFault
+elements_of text = lexed text (tokens_of text)
+
+abbrev pub outline_by : List ℕ → Shape → Forest → OutlineOutcome
+outline_by text shape forest = and_then (allowed text shape (forest_tokens forest)) (λ fine. by_shape text shape forest)
 
 -- the outline of a text, or its first fault: by its length, its tokens, its brackets, its words, its declarations
 unfoldable pub outline : List ℕ → Shape → OutlineOutcome
-outline text shape = if nat_lt LONGEST_SOURCE (length text) then Err (fault 0 SourceTooLarge) else lexed text shape (tokens_of text)
+outline text shape = if nat_lt LONGEST_SOURCE (length text) then Err (fault 0 SourceTooLarge) else and_then (elements_of text) (outline_by text shape)
 
 abbrev pub IsOutline : List ℕ → Shape → OutlineOutcome → Type 0
 IsOutline text shape outcome = outcome ≡ outline text shape

@@ -18,7 +18,8 @@ mod place;
 
 pub use fault::{ParseFault, ParseKind};
 pub use parse::{
-    LONGEST_SOURCE, parse_accessors, parse_attributes, parse_expression, parse_file, parse_items,
+    LONGEST_SOURCE, elements_of, parse_accessors, parse_attributes, parse_expression, parse_file,
+    parse_items,
 };
 
 #[cfg(test)]

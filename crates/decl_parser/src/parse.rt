@@ -1,9 +1,11 @@
 // A text into its outline.
 
+ghost use Rattle.std.specs.Prelude.{◌≡◌};
+ghost use Rattle.swift_lexer.specs.Trees.{forest_of};
 ghost use Rattle.swift_tree.specs.Outlines.{outline_of};
 ghost use Rattle.swift_tree.specs.declared.outline.Shape.TheVariants as shape;
 ghost use Rattle.element_marks.specs.Answers.{Answers};
-ghost use Rattle.decl_parser.specs.Outline.{IsOutline};
+ghost use Rattle.decl_parser.specs.Outline.{IsOutline, elements_of};
 
 use crate::fault::{ParseFault, ParseKind, fault, of_grouping, of_lexing};
 use crate::fragments::by_shape;
@@ -64,6 +66,14 @@ fn parse(alloc: Global, text: &[u8], shape: Shape) -> Result<Outline, Refusal<Pa
         unreserved(text, &tokens)?;
     }
     by_shape(alloc, text, shape, &elements)
+}
+
+/// The elements of a text, or the first fault of its tokens, and then of its brackets.
+pub fn elements_of(alloc: Global, text: &[u8]) -> Result<Vec<Element>, Refusal<ParseFault>>
+    ensures { Answers (λ elements. forest_of elements.items) result (λ outcome. outcome ≡ elements_of text.now) }
+{
+    let tokens = tokens_of(alloc, text)?;
+    groups_of(alloc, &tokens, text)
 }
 
 fn tokens_of(alloc: Global, text: &[u8]) -> Result<Vec<Token>, Refusal<ParseFault>> {
