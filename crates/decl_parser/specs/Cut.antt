@@ -1,9 +1,11 @@
 -- A list of elements cut into declarations: this project's own, after The Swift Programming Language, Declarations.
-use Rattle.std.specs.Prelude.{ℕ, zero, suc, ◌+◌, ◌-◌, ◌==◌, List, [], ◌∷◌, ◌++◌, reverse, take, drop, length, Option, Some, None, Result, Ok, Err, Bool, true, false, not, if◌then◌else◌}
+use Rattle.std.specs.Prelude.{ℕ, zero, suc, ◌+◌, ◌-◌, ◌==◌, min, slice_get, List, [], ◌∷◌, ◌++◌, reverse, take, drop, length, Option, Some, None, option_map, Result, Ok, Err, Bool, true, false, not, if◌then◌else◌}
 use Rattle.swift_base.specs.declared.place.Span.{Span}
 use Rattle.swift_tree.specs.declared.item.Kind.{Kind}
 use Rattle.swift_tree.specs.declared.item.Kind.TheVariants as kind
-use Rattle.swift_tree.specs.Outlines.{ItemSeen, item, BlockSeen, block, no_block, ItemsSeen, none, cons}
+use Rattle.swift_tree.specs.Outlines.{ItemSeen, item, BlockSeen, block, no_block, block_from, items_from}
+use Rattle.swift_tree.specs.Outlines as outlines
+use Rattle.swift_tree.specs.declared.item.Block.{Block}
 use Rattle.element_marks.specs.declared.mark.Mark.{Mark}
 use Rattle.element_marks.specs.declared.words.Keyword.{Keyword}
 use Rattle.element_marks.specs.declared.words.Keyword.TheVariants.{Starts}
@@ -11,8 +13,8 @@ use Rattle.element_marks.specs.declared.words.Starter.{Starter}
 use Rattle.element_marks.specs.declared.words.Starter.TheVariants as starter
 use Rattle.element_marks.specs.Answers.{and_then}
 use Rattle.element_marks.specs.Sorts.{is_pound, is_builtin_pound, is_semicolon, is_braces}
-use Rattle.element_marks.specs.Heads.{by_length, first_is}
-use Rattle.element_marks.specs.Runs.{before, item_length, run_length}
+use Rattle.element_marks.specs.Heads.{first_is}
+use Rattle.element_marks.specs.Runs.{before, item_length}
 use Rattle.element_marks.specs.Uses.{use_length}
 use Rattle.decl_parser.specs.declared.fault.ParseFault.{ParseFault}
 use Rattle.decl_parser.specs.declared.fault.ParseKind.TheVariants.{NotADeclaration, BuiltinItem, AttributedUse, DanglingJoiner}
@@ -29,7 +31,7 @@ use Rattle.decl_parser.specs.Parts.{parts, has_members}
 
 -- the declarations in a group's braces, or their first fault
 abbrev pub MembersRead : Type 0
-MembersRead = Result ItemsSeen ParseFault
+MembersRead = Result (List ItemSeen) ParseFault
 
 -- the kind of declaration that a word begins
 abbrev pub word_kind : Starter → Kind
@@ -64,9 +66,10 @@ abbrev pub start_of : List Mark → ℕ
 start_of [] = 0
 start_of (mark ∷ marks) = mark.start
 
+-- how many elements the head is that begins here, as far as the list goes
 abbrev pub head_of : List Mark → ℕ
 head_of [] = 0
-head_of (mark ∷ marks) = mark.head
+head_of (mark ∷ marks) = min mark.head (suc (length marks))
 
 -- the starter, which stands first, of a declaration that begins at `start` and has to have a place there
 abbrev pub placed : Place → ℕ → List Mark → Result Mark ParseFault
@@ -94,24 +97,26 @@ use_ends starter list from =
 -- nothing stands behind the braces at the place
 abbrev pub closed : Option ℕ → List Mark → Result (Unit {0}) ParseFault
 closed None marks = Ok tt
-closed (Some place) marks = nothing_more (drop (suc place) marks)
+closed (Some place) marks = nothing_more (drop 1 (drop place marks))
 
 -- the last element doesn't join
+abbrev pub ends_at : Option Mark → Result (Unit {0}) ParseFault
+ends_at None = Ok tt
+ends_at (Some mark) = if mark.joins then Err (fault mark.start DanglingJoiner) else Ok tt
+
 abbrev pub ends : List Mark → Result (Unit {0}) ParseFault
-ends [] = Ok tt
-ends (mark ∷ []) = if mark.joins then Err (fault mark.start DanglingJoiner) else Ok tt
-ends (mark ∷ next ∷ marks) = ends (next ∷ marks)
+ends own = ends_at (slice_get own (length own - 1))
 
 -- where the braces of the members are among a declaration's elements
 abbrev pub members_place : Mark → ℕ → List Mark → Option ℕ
 members_place starter head own = if has_members (kind_of starter) then Some (head + before is_braces (drop head own)) else None
 
 abbrev pub first_members : List MembersRead → MembersRead
-first_members [] = Ok none
+first_members [] = Ok []
 first_members (members ∷ others) = members
 
 abbrev pub members_at : Option ℕ → List MembersRead → MembersRead
-members_at None members = Ok none
+members_at None members = Ok []
 members_at (Some place) members = first_members (drop place members)
 
 -- what stands inside the braces at the place is not looked at
@@ -119,9 +124,13 @@ abbrev pub without : Option ℕ → List Inside → List Inside
 without None insides = insides
 without (Some place) insides = take place insides ++ (nothing_inside ∷ drop (suc place) insides)
 
-abbrev pub block_of : Option BlockAt → ItemsSeen → BlockSeen
+abbrev pub block_of : Option BlockAt → List ItemSeen → BlockSeen
 block_of None members = no_block
-block_of (Some at) members = block at.span at.shape members
+block_of (Some at) members = block at.span at.shape (items_from members)
+
+-- the code's block, apart from where it lies in memory
+abbrev pub braces_seen : Option Block → BlockSeen
+braces_seen braces = block_from (option_map outlines.block_of braces)
 
 -- the end of a `;` that stands first, else this one
 abbrev pub after : ℕ → List Mark → ℕ
@@ -129,7 +138,7 @@ after end [] = end
 after end (mark ∷ marks) = if is_semicolon mark then mark.end else end
 
 -- the declaration by its span, its parts and what was found in it
-abbrev pub assembled : Span → List Mark → Kind → Parts → Found → ItemsSeen → ItemSeen
+abbrev pub assembled : Span → List Mark → Kind → Parts → Found → List ItemSeen → ItemSeen
 assembled span next kind parts found members =
     item (record {
       span = span;
@@ -144,7 +153,13 @@ assembled span next kind parts found members =
       locals = found.locals;
     }) (block_of parts.block members)
 
--- the declaration by its starter
+-- the declaration from the place `from` to the end of `list`, by its parts, what stands inside its elements, and its members
+unfoldable pub whole_item : List Mark → ℕ → List Mark → Kind → Parts → List Inside → List ItemSeen → ItemSeen
+whole_item list from next kind parts insides members =
+    let own = drop from list in
+    assembled (span_from own) next kind parts (found_from parts.blocks (min (from + head_of own) (length list)) list from 0 (length list - from) insides) members
+
+-- the same by its starter, or the first fault
 abbrev pub item_by : List Mark → ℕ → List Mark → List Inside → List MembersRead → Mark → Result ItemSeen ParseFault
 item_by list from next insides members starter =
     let own = drop from list in
@@ -156,36 +171,36 @@ item_by list from next insides members starter =
     and_then (members_at place members) (λ inner.
     and_then (closed parts.body (drop head own)) (λ closes.
     and_then (use_ends starter list from) (λ alone.
-    and_then (ends own) (λ ended.
-    Ok (assembled (span_from own) next (kind_of starter) parts (found_from parts.blocks (from + head) list from 0 (length own) outside) inner)))))))
+    and_then (ends own) (λ ended. Ok (whole_item list from next (kind_of starter) parts outside inner)))))))
 
 -- the declaration from the place `from` to the end of `list`, or its first fault; `next` stands behind it.
 -- `insides` and `members` are those of its elements
 abbrev pub item_at : Place → List Mark → ℕ → List Mark → List Inside → List MembersRead → Result ItemSeen ParseFault
 item_at place list from next insides members = and_then (starter_of place (drop from list)) (λ starter. item_by list from next insides members starter)
 
--- where the declaration ends that begins at the place
-abbrev pub item_end : List Mark → ℕ → ℕ
-item_end marks at = at + item_length (head_of (drop at marks)) (drop at marks)
+-- how many elements the declaration is that begins here
+abbrev pub count_of : List Mark → ℕ
+count_of marks = item_length (head_of marks) marks
 
 -- the declaration that begins at the place
 abbrev pub one_item : Place → List Mark → List Inside → List MembersRead → ℕ → Result ItemSeen ParseFault
 one_item place marks insides members at =
-    item_at place (take (item_end marks at) marks) at (drop (item_end marks at) marks) (drop at insides) (drop at members)
+    let count = count_of (drop at marks) in
+    item_at place (take (at + count) marks) at (drop (at + count) marks) (take count (drop at insides)) (take count (drop at members))
 
 -- one declaration more
 abbrev pub with_first : Result ItemSeen ParseFault → MembersRead → MembersRead
-with_first one others = and_then one (λ first. and_then others (λ items. Ok (cons first items)))
+with_first one others = and_then one (λ first. and_then others (λ items. Ok (first ∷ items)))
 
 -- the declarations of a list from the place `at` on, where `left` elements are left, past `inside` elements of one that began before
-abbrev pub items_from : Place → List Mark → List Inside → List MembersRead → ℕ → ℕ → ℕ → MembersRead
-items_from place marks insides members at inside zero = Ok none
-items_from place marks insides members at (suc inside) (suc left) = items_from place marks insides members (suc at) inside left
-items_from place marks insides members at zero (suc left) =
-    if first_is is_semicolon (drop at marks) then items_from place marks insides members (suc at) 0 left
-    else by_length (head_of (drop at marks)) (Err (fault (start_of (drop at marks)) NotADeclaration)) (λ more.
-    with_first (one_item place marks insides members at) (items_from place marks insides members (suc at) (more + run_length false (drop (suc more) (drop at marks))) left))
+abbrev pub cut_from : Place → List Mark → List Inside → List MembersRead → ℕ → ℕ → ℕ → MembersRead
+cut_from place marks insides members at inside zero = Ok []
+cut_from place marks insides members at (suc inside) (suc left) = cut_from place marks insides members (suc at) inside left
+cut_from place marks insides members at zero (suc left) =
+    if first_is is_semicolon (drop at marks) then cut_from place marks insides members (suc at) 0 left
+    else (if head_of (drop at marks) == 0 then Err (fault (start_of (drop at marks)) NotADeclaration)
+    else with_first (one_item place marks insides members at) (cut_from place marks insides members (suc at) (count_of (drop at marks) - 1) left))
 
 -- the declarations of a list, or the first fault
 unfoldable pub items_in : Place → List Mark → List Inside → List MembersRead → MembersRead
-items_in place marks insides members = items_from place marks insides members 0 0 (length marks)
+items_in place marks insides members = cut_from place marks insides members 0 0 (length marks)

@@ -1,11 +1,11 @@
 -- Attributes, accessors and expressions as whole texts: this project's own, after SE-0382 and SE-0389.
-use Rattle.std.specs.Prelude.{ℕ, zero, suc, List, [], ◌∷◌, drop, length, Result, Ok, Err, true, if◌then◌else◌}
+use Rattle.std.specs.Prelude.{ℕ, zero, suc, List, [], ◌∷◌, drop, length, Option, Some, None, Result, Ok, Err, true, if◌then◌else◌}
 use Rattle.swift_base.specs.declared.place.Span.{Span}
 use Rattle.swift_lexer.specs.Trees.{Tree, Forest, leaf, nest, none, cons}
 use Rattle.swift_tree.specs.declared.item.Attr.{Attr}
 use Rattle.swift_tree.specs.declared.outline.Shape.{Shape}
 use Rattle.swift_tree.specs.declared.outline.Shape.TheVariants as shape
-use Rattle.swift_tree.specs.Outlines.{OutlineSeen}
+use Rattle.swift_tree.specs.Outlines.{OutlineSeen, items_from}
 use Rattle.swift_tree.specs.Outlines as seen
 use Rattle.element_marks.specs.declared.mark.Mark.{Mark}
 use Rattle.element_marks.specs.Answers.{and_then}
@@ -32,7 +32,7 @@ abbrev pub all_of : List ℕ → Span
 all_of text = record { start = 0; end = length text }
 
 abbrev pub with_items : OutlineSeen → MembersRead → Result OutlineSeen ParseFault
-with_items outline outcome = and_then outcome (λ items. Ok (record outline { items = items }))
+with_items outline outcome = and_then outcome (λ items. Ok (record outline { items = items_from items }))
 
 abbrev pub with_found : OutlineSeen → Found → OutlineSeen
 with_found outline found = record outline { uses = found.uses; locals = found.locals }
@@ -54,18 +54,23 @@ abbrev pub expression : List Mark → Result (Unit {0}) ParseFault
 expression [] = Err (fault 0 Empty)
 expression (mark ∷ marks) = no_semicolon (mark ∷ marks)
 
+-- the one group that the elements are
+abbrev pub one_group : Forest → Option Forest
+one_group (cons (nest left inner right) none) = Some inner
+one_group _ = None
+
 -- the list that accessors stand in: the text's, or that inside the one pair of braces that it is
-abbrev pub accessor_marks : List ℕ → Forest → List Mark
-accessor_marks text (cons (nest left inner right) none) = if first_is is_braces (level text (cons (nest left inner right) none)) then level text inner else level text (cons (nest left inner right) none)
-accessor_marks text forest = level text forest
+abbrev pub accessor_marks : List ℕ → List Mark → Option Forest → List Mark
+accessor_marks text marks None = marks
+accessor_marks text marks (Some inner) = if first_is is_braces marks then level text inner else marks
 
 abbrev pub first_between : List ℕ → List Mark → Span
 first_between text [] = all_of text
 first_between text (braces ∷ marks) = if is_braces braces then between braces else all_of text
 
-abbrev pub accessors_inside : List ℕ → Forest → Span
-accessors_inside text (cons (nest left inner right) none) = first_between text (level text (cons (nest left inner right) none))
-accessors_inside text forest = all_of text
+abbrev pub accessors_inside : List ℕ → List Mark → Option Forest → Span
+accessors_inside text marks None = all_of text
+accessors_inside text marks (Some inner) = first_between text marks
 
 abbrev pub not_an_accessor : {A : Type 0} → Result A ℕ → Result A ParseFault
 not_an_accessor (Ok words) = Ok words
@@ -78,6 +83,6 @@ by_shape text shape.Items forest = with_items (bare text shape.Items (all_of tex
 by_shape text shape.Attributes forest =
     and_then (attributes_from 0 (level text forest) (insides text forest)) (λ attrs. Ok (record (bare text shape.Attributes (span_from (level text forest))) { attrs = attrs }))
 by_shape text shape.Accessors forest =
-    and_then (not_an_accessor (accessors_from true 0 (accessor_marks text forest))) (λ words. Ok (with_found (record (bare text shape.Accessors (accessors_inside text forest)) { accessors = words }) (found_in (level text forest) (insides text forest))))
+    and_then (not_an_accessor (accessors_from true 0 (accessor_marks text (level text forest) (one_group forest)))) (λ words. Ok (with_found (record (bare text shape.Accessors (accessors_inside text (level text forest) (one_group forest))) { accessors = words }) (found_in (level text forest) (insides text forest))))
 by_shape text shape.Expression forest =
     and_then (expression (level text forest)) (λ fine. Ok (with_found (bare text shape.Expression (span_from (level text forest))) (found_in (level text forest) (insides text forest))))

@@ -1,6 +1,5 @@
 -- What stands inside each group, at every depth: this project's own words.
 use Rattle.std.specs.Prelude.{ℕ, List, [], ◌∷◌, Ok}
-use Rattle.swift_tree.specs.Outlines as seen
 use Rattle.swift_lexer.specs.Trees.{Tree, Forest, leaf, nest, none, cons}
 use Rattle.element_marks.specs.declared.mark.Mark.{Mark}
 use Rattle.element_marks.specs.Levels.{level}
@@ -35,7 +34,7 @@ unfoldable mutual
 
 unfoldable mutual
   pub members_of : List ℕ → Tree → MembersRead
-  members_of text (leaf token) = Ok seen.none
+  members_of text (leaf token) = Ok []
   members_of text (nest left inner right) = items_in Members (level text inner) (insides text inner) (members text inner)
 
   -- the members that each element of a list has

@@ -1,10 +1,14 @@
 // Attributes, accessors and expressions as whole texts.
 
-ghost use Rattle.std.specs.Prelude.{◌≡◌, IfOk};
+ghost use Rattle.std.specs.Prelude.{◌≡◌, ◌≤◌, IfOk, length, option_map, true};
 ghost use Rattle.swift_lexer.specs.Trees.{forest_of};
 ghost use Rattle.swift_tree.specs.Outlines.{outline_of};
 ghost use Rattle.element_marks.specs.Answers.{Answers};
-ghost use Rattle.decl_parser.specs.Fragments.{all_of, attributes_from, bare, by_shape, expression};
+ghost use Rattle.swift_tree.specs.declared.outline.Shape.TheVariants as shape;
+ghost use Rattle.element_marks.specs.Accessors.{accessors_from};
+ghost use Rattle.decl_parser.specs.Found.{found_in};
+ghost use Rattle.decl_parser.specs.Levels.{insides, items_of_list};
+ghost use Rattle.decl_parser.specs.Fragments.{accessor_marks, accessors_inside, all_of, attributes_from, bare, by_shape, expression, not_an_accessor, one_group, with_found, with_items};
 
 use crate::attributes::{attr_of, span_from};
 use crate::fault::{ParseFault, ParseKind, fault};
@@ -13,6 +17,7 @@ use crate::inside::Inside;
 use crate::items::items;
 use crate::levels::insides;
 use crate::lists::behind;
+use crate::parse::LONGEST_SOURCE;
 use crate::place::Place;
 use element_marks::{
     Mark, accessor_words, attribute_length, between, is_braces, is_semicolon, marks_in,
@@ -29,6 +34,7 @@ pub fn by_shape(
     shape: Shape,
     elements: &[Element],
 ) -> Result<Outline, Refusal<ParseFault>>
+    requires { length text.now ≤ LONGEST_SOURCE }
     ensures { Answers outline_of result (λ outcome. outcome ≡ by_shape text.now shape (forest_of elements.now)) }
 {
     match shape {
@@ -40,7 +46,10 @@ pub fn by_shape(
     }
 }
 
-fn all_of(text: &[u8]) -> Span {
+fn all_of(text: &[u8]) -> Span
+    requires { length text.now ≤ LONGEST_SOURCE }
+    ensures { result ≡ all_of text.now }
+{
     Span {
         start: 0,
         end: text.len() as u32,
@@ -69,7 +78,10 @@ fn declarations(
     shape: Shape,
     elements: &[Element],
     place: Place,
-) -> Result<Outline, Refusal<ParseFault>> {
+) -> Result<Outline, Refusal<ParseFault>>
+    requires { length text.now ≤ LONGEST_SOURCE }
+    ensures { Answers outline_of result (λ outcome. outcome ≡ with_items (bare text.now shape (all_of text.now)) (items_of_list place text.now (forest_of elements.now))) }
+{
     let items = items(alloc, text, elements, place)?;
     let mut outline = bare(alloc, text, shape, all_of(text))?;
     outline.items = items;
@@ -80,7 +92,10 @@ fn attributes(
     alloc: Global,
     text: &[u8],
     elements: &[Element],
-) -> Result<Outline, Refusal<ParseFault>> {
+) -> Result<Outline, Refusal<ParseFault>>
+    requires { length text.now ≤ LONGEST_SOURCE }
+    ensures { Answers outline_of result (λ outcome. outcome ≡ by_shape text.now shape.Attributes (forest_of elements.now)) }
+{
     let marks = marks_in(alloc, text, elements)?;
     let insides = insides(alloc, text, elements)?;
     let attrs = attributes_in(alloc, &marks, &insides)?;
@@ -117,7 +132,10 @@ fn accessors(
     alloc: Global,
     text: &[u8],
     elements: &[Element],
-) -> Result<Outline, Refusal<ParseFault>> {
+) -> Result<Outline, Refusal<ParseFault>>
+    requires { length text.now ≤ LONGEST_SOURCE }
+    ensures { Answers outline_of result (λ outcome. outcome ≡ by_shape text.now shape.Accessors (forest_of elements.now)) }
+{
     let marks = marks_in(alloc, text, elements)?;
     let words = words_in(alloc, text, elements, &marks)?;
     let mut outline = bare(
@@ -131,7 +149,10 @@ fn accessors(
     Ok(outline)
 }
 
-fn accessors_inside(text: &[u8], elements: &[Element], marks: &[Mark]) -> Span {
+fn accessors_inside(text: &[u8], elements: &[Element], marks: &[Mark]) -> Span
+    requires { length text.now ≤ LONGEST_SOURCE }
+    ensures { result ≡ accessors_inside text.now marks.now (one_group (forest_of elements.now)) }
+{
     match (marks.first(), one_group(elements)) {
         (Some(braces), Some(_)) if is_braces(braces) => between(braces),
         _ => all_of(text),
@@ -139,7 +160,9 @@ fn accessors_inside(text: &[u8], elements: &[Element], marks: &[Mark]) -> Span {
 }
 
 /// What stands inside the one group that the elements are.
-fn one_group(elements: &[Element]) -> Option<&[Element]> {
+fn one_group(elements: &[Element]) -> Option<&[Element]>
+    ensures { option_map (λ inner. forest_of inner.now) result ≡ one_group (forest_of elements.now) }
+{
     match elements {
         [
             Element::Nest {
@@ -158,7 +181,9 @@ fn words_in(
     text: &[u8],
     elements: &[Element],
     marks: &[Mark],
-) -> Result<Vec<Span>, Refusal<ParseFault>> {
+) -> Result<Vec<Span>, Refusal<ParseFault>>
+    ensures { Answers (λ words. words.items) result (λ outcome. outcome ≡ not_an_accessor (accessors_from true 0 (accessor_marks text.now marks.now (one_group (forest_of elements.now))))) }
+{
     match (marks.first(), one_group(elements)) {
         (Some(braces), Some(inner)) if is_braces(braces) => {
             let inner = marks_in(alloc, text, inner)?;
@@ -168,7 +193,9 @@ fn words_in(
     }
 }
 
-fn words_of(alloc: Global, marks: &[Mark]) -> Result<Vec<Span>, Refusal<ParseFault>> {
+fn words_of(alloc: Global, marks: &[Mark]) -> Result<Vec<Span>, Refusal<ParseFault>>
+    ensures { Answers (λ words. words.items) result (λ outcome. outcome ≡ not_an_accessor (accessors_from true 0 marks.now)) }
+{
     match accessor_words(alloc, marks) {
         Ok(words) => Ok(words),
         Err(Refusal::Memory) => Err(Refusal::Memory),
@@ -181,7 +208,10 @@ fn expression(
     alloc: Global,
     text: &[u8],
     elements: &[Element],
-) -> Result<Outline, Refusal<ParseFault>> {
+) -> Result<Outline, Refusal<ParseFault>>
+    requires { length text.now ≤ LONGEST_SOURCE }
+    ensures { Answers outline_of result (λ outcome. outcome ≡ by_shape text.now shape.Expression (forest_of elements.now)) }
+{
     let marks = marks_in(alloc, text, elements)?;
     expressed(&marks)?;
     let mut outline = bare(alloc, text, Shape::Expression, span_from(&marks))?;
@@ -210,7 +240,9 @@ fn add_found(
     elements: &[Element],
     marks: &[Mark],
     outline: &mut Outline,
-) -> Result<(), AllocError> {
+) -> Result<(), AllocError>
+    ensures { IfOk result (λ _. outline_of outline.new ≡ with_found (outline_of outline.old) (found_in marks.now (insides text.now (forest_of elements.now)))) }
+{
     let insides = insides(alloc, text, elements)?;
     let Findings {
         attrs: _,

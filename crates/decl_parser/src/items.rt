@@ -1,10 +1,10 @@
 // Lists of elements cut into declarations.
 
-ghost use Rattle.std.specs.Prelude.{◌≡◌, ◌≤◌, IfOk, drop, length, take};
+ghost use Rattle.std.specs.Prelude.{◌≡◌, ◌≤◌, ◌+◌, IfOk, drop, length, map, take};
 ghost use Rattle.swift_lexer.specs.Trees.{forest_of};
-ghost use Rattle.swift_tree.specs.Outlines.{item_of, items_of};
+ghost use Rattle.swift_tree.specs.Outlines.{item_of};
 ghost use Rattle.element_marks.specs.Answers.{Answers};
-ghost use Rattle.decl_parser.specs.Cut.{after, closed, ends, head_of, item_at, kind_of, members_place, nothing_more, start_of, starter_of, use_ends, use_fits, word_kind};
+ghost use Rattle.decl_parser.specs.Cut.{after, block_of, braces_seen, closed, count_of, ends, head_of, item_at, kind_of, members_place, nothing_more, start_of, starter_of, use_ends, use_fits, whole_item, word_kind};
 ghost use Rattle.decl_parser.specs.Levels.{insides, items_of_list, members};
 
 use crate::attributes::span_from;
@@ -80,18 +80,19 @@ pub fn items(
     elements: &[Element],
     place: Place,
 ) -> Result<Vec<Item>, Refusal<ParseFault>>
-    ensures { Answers (λ items. items_of items.items) result (λ outcome. outcome ≡ items_of_list place text.now (forest_of elements.now)) }
+    ensures { Answers (λ items. map item_of items.items) result (λ outcome. outcome ≡ items_of_list place text.now (forest_of elements.now)) }
 {
     let marks = marks_in(alloc, text, elements)?;
     let mut items = Vec::new(alloc);
     let mut at = 0;
     'items: while let Some(mark) = marks.get(at) {
+        let rest = behind(&marks, at);
         if is_semicolon(mark) {
             at += 1;
         } else if mark.head == 0 {
             return Err(fault(mark.start, ParseKind::NotADeclaration));
         } else {
-            let count = item_length(mark.head, behind(&marks, at));
+            let count = count_of(rest);
             let own = Own {
                 text,
                 list: upto(&marks, at + count),
@@ -113,7 +114,10 @@ fn item_at(
     own: Own,
     next: &[Mark],
     place: Place,
-) -> Result<Item, Refusal<ParseFault>> {
+) -> Result<Item, Refusal<ParseFault>>
+    requires { own.from ≤ length own.list.now }
+    ensures { Answers item_of result (λ outcome. outcome ≡ item_at place own.entry.list.now own.entry.from next.now (insides own.entry.text.now (forest_of own.entry.elements.now)) (members own.entry.text.now (forest_of own.entry.elements.now))) }
+{
     let marks = behind(own.list, own.from);
     let starter = starter_of(place, marks)?;
     let head = head_of(marks);
@@ -138,6 +142,14 @@ fn item_at(
     Ok(assembled(alloc, own, next, kind, parts, &insides, members)?)
 }
 
+/// How many elements the declaration is that begins here.
+fn count_of(marks: &[Mark]) -> usize
+    ensures value { result ≡ count_of marks.now }
+    ensures bound { result ≤ length marks.now + length marks.now }
+{
+    item_length(head_of(marks), marks)
+}
+
 /// What stands inside the brackets of the element at the place.
 fn inside_at(elements: &[Element], at: usize) -> &[Element] {
     match elements.get(at) {
@@ -153,10 +165,11 @@ fn inside_at(elements: &[Element], at: usize) -> &[Element] {
 }
 
 fn head_of(own: &[Mark]) -> usize
-    ensures { result ≡ head_of own.now }
+    ensures value { result ≡ head_of own.now }
+    ensures bound { result ≤ length own.now }
 {
     match own.first() {
-        Some(first) => first.head,
+        Some(first) => first.head.min(own.len()),
         None => 0,
     }
 }
@@ -181,7 +194,10 @@ fn starter_of(place: Place, own: &[Mark]) -> Result<Mark, Refusal<ParseFault>>
 }
 
 /// Where the braces of the members are among a declaration's elements.
-fn members_place(starter: &Mark, head: usize, own: &[Mark]) -> Option<usize> {
+fn members_place(starter: &Mark, head: usize, own: &[Mark]) -> Option<usize>
+    requires { head ≤ length own.now }
+    ensures { result ≡ members_place starter.now head own.now }
+{
     if has_members(kind_of(starter)) {
         Some(head + before_braces(behind(own, head)))
     } else {
@@ -255,7 +271,9 @@ fn after(end: u32, next: &[Mark]) -> u32
     }
 }
 
-fn block_of(block: Option<BlockAt>, members: Vec<Item>) -> Option<Block> {
+fn block_of(block: Option<BlockAt>, members: Vec<Item>) -> Option<Block>
+    ensures { braces_seen result ≡ block_of block (map item_of members.items) }
+{
     let BlockAt { span, shape } = block?;
     Some(Block {
         span,
@@ -273,7 +291,10 @@ fn assembled(
     parts: Parts,
     insides: &[Inside],
     members: Vec<Item>,
-) -> Result<Item, AllocError> {
+) -> Result<Item, AllocError>
+    requires { own.from ≤ length own.list.now }
+    ensures { IfOk result (λ item. item_of item ≡ whole_item own.entry.list.now own.entry.from next.now kind parts insides.now (map item_of members.items)) }
+{
     let marks = behind(own.list, own.from);
     let Findings {
         attrs,
@@ -284,7 +305,7 @@ fn assembled(
         Search {
             list: own.list,
             from: own.from,
-            own: own.from + head_of(marks),
+            own: own.from.saturating_add(head_of(marks)).min(own.list.len()),
             blocks: parts.blocks.items(),
             insides,
         },

@@ -60,6 +60,7 @@ pub fn insides_without(
 }
 
 /// What stands inside a group, by the elements of its list.
+#[tactic(auto, unfolding(crate::specs::Levels::read_inside))]
 fn read_inside(alloc: Global, marks: &[Mark], insides: &[Inside]) -> Result<Inside, AllocError>
     ensures { IfOk result (λ inside. inside ≡ read_inside marks.now insides.now) }
 {

@@ -1,18 +1,23 @@
 // A text into its outline.
 
-ghost use Rattle.std.specs.Prelude.{◌≡◌};
-ghost use Rattle.swift_lexer.specs.Trees.{forest_of};
+ghost use Rattle.std.specs.Prelude.{◌≡◌, ◌≤◌, IfOk, Ok, length};
+ghost use Rattle.swift_lexer.specs.Tokens.{IsLexed};
+ghost use Rattle.swift_lexer.specs.Trees.{forest_of, forest_tokens};
 ghost use Rattle.swift_tree.specs.Outlines.{outline_of};
 ghost use Rattle.swift_tree.specs.declared.outline.Shape.TheVariants as shape;
 ghost use Rattle.element_marks.specs.Answers.{Answers};
-ghost use Rattle.decl_parser.specs.Outline.{IsOutline, elements_of};
+ghost use Rattle.decl_parser.specs.Outline.{IsOutline, allowed, elements_of, name_bytes, read_groups, read_tokens, unreserved};
 
 use crate::fault::{ParseFault, ParseKind, fault, of_grouping, of_lexing};
 use crate::fragments::by_shape;
+use crate::lists::behind;
 use element_marks::{is_reserved, part};
 use std::alloc::Global;
 use swift_base::Refusal;
-use swift_lexer::{Class, Element, GroupFault, LexFault, Token, group, lex};
+use swift_lexer::{
+    Class, Element, GroupFault, LexFault, Token, group, groups_hold_the_tokens, lex,
+    one_group_outcome, one_token_outcome,
+};
 use swift_tree::{Outline, Shape};
 
 /// The length of the longest text that is read, in bytes.
@@ -57,18 +62,13 @@ pub fn parse_expression(alloc: Global, text: &[u8]) -> Result<Outline, Refusal<P
 fn parse(alloc: Global, text: &[u8], shape: Shape) -> Result<Outline, Refusal<ParseFault>>
     ensures { Answers outline_of result (IsOutline text.now shape) }
 {
-    if text.len() > LONGEST_SOURCE {
-        return Err(fault(0, ParseKind::SourceTooLarge));
-    }
     let tokens = tokens_of(alloc, text)?;
     let elements = groups_of(alloc, &tokens, text)?;
-    if let Shape::File = shape {
-        unreserved(text, &tokens)?;
-    }
+    allowed(text, shape, &tokens)?;
     by_shape(alloc, text, shape, &elements)
 }
 
-/// The elements of a text, or the first fault of its tokens, and then of its brackets.
+/// The elements of a text, or the first fault of its length, its tokens, and then its brackets.
 pub fn elements_of(alloc: Global, text: &[u8]) -> Result<Vec<Element>, Refusal<ParseFault>>
     ensures { Answers (λ elements. forest_of elements.items) result (λ outcome. outcome ≡ elements_of text.now) }
 {
@@ -76,7 +76,15 @@ pub fn elements_of(alloc: Global, text: &[u8]) -> Result<Vec<Element>, Refusal<P
     groups_of(alloc, &tokens, text)
 }
 
-fn tokens_of(alloc: Global, text: &[u8]) -> Result<Vec<Token>, Refusal<ParseFault>> {
+fn tokens_of(alloc: Global, text: &[u8]) -> Result<Vec<Token>, Refusal<ParseFault>>
+    ensures tokens { Answers (λ tokens. tokens.items) result (λ outcome. outcome ≡ read_tokens text.now) }
+    ensures lexed { IfOk result (λ tokens. IsLexed text.now (Ok tokens.items)) }
+    ensures short { IfOk result (λ _. length text.now ≤ LONGEST_SOURCE) }
+{
+    if text.len() > LONGEST_SOURCE {
+        return Err(fault(0, ParseKind::SourceTooLarge));
+    }
+    one_token_outcome();
     match lex(alloc, text) {
         Ok(tokens) => Ok(tokens),
         Err(swift_lexer::Refusal::Memory) => Err(Refusal::Memory),
@@ -88,7 +96,13 @@ fn groups_of(
     alloc: Global,
     tokens: &[Token],
     text: &[u8],
-) -> Result<Vec<Element>, Refusal<ParseFault>> {
+) -> Result<Vec<Element>, Refusal<ParseFault>>
+    requires { IsLexed text.now (Ok tokens.now) }
+    ensures groups { Answers (λ elements. forest_of elements.items) result (λ outcome. outcome ≡ read_groups text.now tokens.now) }
+    ensures held { IfOk result (λ elements. forest_tokens (forest_of elements.items) ≡ tokens.now) }
+{
+    one_group_outcome();
+    groups_hold_the_tokens();
     match group(alloc, tokens, text) {
         Ok(elements) => Ok(elements),
         Err(swift_lexer::Refusal::Memory) => Err(Refusal::Memory),
@@ -98,9 +112,21 @@ fn groups_of(
     }
 }
 
+/// Only a file is looked through for reserved words.
+fn allowed(text: &[u8], shape: Shape, tokens: &[Token]) -> Result<(), Refusal<ParseFault>>
+    ensures { Answers (λ fine. fine) result (λ outcome. outcome ≡ allowed text.now shape tokens.now) }
+{
+    match shape {
+        Shape::File => unreserved(text, tokens),
+        _ => Ok(()),
+    }
+}
+
 /// No word of the text is one that only macros make.
-fn unreserved(text: &[u8], tokens: &[Token]) -> Result<(), Refusal<ParseFault>> {
-    for token in tokens {
+fn unreserved(text: &[u8], tokens: &[Token]) -> Result<(), Refusal<ParseFault>>
+    ensures { Answers (λ fine. fine) result (λ outcome. outcome ≡ unreserved text.now tokens.now) }
+{
+    'tokens: for token in tokens {
         if is_reserved(name_bytes(text, *token)) {
             return Err(fault(token.start, ParseKind::ReservedWord));
         }
@@ -109,10 +135,12 @@ fn unreserved(text: &[u8], tokens: &[Token]) -> Result<(), Refusal<ParseFault>> 
 }
 
 /// A name's own bytes; other tokens have none.
-fn name_bytes(text: &[u8], token: Token) -> &[u8] {
+fn name_bytes(text: &[u8], token: Token) -> &[u8]
+    ensures { result.now ≡ name_bytes text.now token.class token }
+{
     match token.class {
         Class::Word => part(text, token.start, token.end),
-        Class::Quoted => part(text, token.start + 1, token.end.saturating_sub(1)),
+        Class::Quoted => behind(part(text, token.start, token.end.saturating_sub(1)), 1),
         _ => &[],
     }
 }
