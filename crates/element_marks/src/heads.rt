@@ -123,7 +123,7 @@ pub fn first_angles(marks: &[Mark]) -> usize
 
 fn name_tail(marks: &[Mark]) -> usize
     ensures value { result ≡ name_tail marks.now }
-    ensures bound { result ≤ length marks.now + length marks.now + 3 }
+    ensures bound { result ≤ length marks.now }
 {
     let dots = dots_length(marks);
     let named = dots + first_angles(behind(marks, dots));
@@ -138,7 +138,7 @@ fn name_tail(marks: &[Mark]) -> usize
 #[tactic(auto, unfolding(crate::specs::Heads::attribute_length))]
 pub fn attribute_length(marks: &[Mark]) -> usize
     ensures value { result ≡ attribute_length marks.now }
-    ensures bound { result ≤ length marks.now + length marks.now + 3 }
+    ensures bound { result ≤ length marks.now }
 {
     let (Some(at), Some(name)) = (marks.first(), marks.get(1)) else {
         return 0;
@@ -167,7 +167,8 @@ fn before_member(next: Option<Mark>) -> bool
 }
 
 fn modifier_length(marks: &[Mark]) -> usize
-    ensures { result ≡ modifier_length marks.now }
+    ensures value { result ≡ modifier_length marks.now }
+    ensures bound { result ≤ length marks.now }
 {
     let Some(mark) = marks.first() else {
         return 0;
@@ -185,7 +186,7 @@ fn modifier_length(marks: &[Mark]) -> usize
 /// How many elements the attribute or the modifier is that begins here; 0 where none does.
 pub fn prefix_length(marks: &[Mark]) -> usize
     ensures value { result ≡ prefix_length marks.now }
-    ensures bound { result ≤ length marks.now + length marks.now + 3 }
+    ensures bound { result ≤ length marks.now }
 {
     let attribute = attribute_length(marks);
     if attribute == 0 {

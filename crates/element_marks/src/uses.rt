@@ -1,6 +1,8 @@
 // How far a macro use goes.
 
-ghost use Rattle.std.specs.Prelude.{◌≡◌, ◌+◌, ◌≤◌, length, reverse};
+ghost use Rattle.std.specs.Prelude.{◌≡◌, ◌≤◌, length, reverse};
+ghost use Rattle.element_marks.specs.Sorts.{is_dot};
+ghost use Rattle.element_marks.specs.Heads.{first_is};
 ghost use Rattle.element_marks.specs.Uses.{call_length, in_condition, is_closure, labels_length, use_angles, use_length};
 
 use crate::heads::{behind, first_arguments, first_use};
@@ -13,18 +15,27 @@ use crate::words::is_condition;
 fn in_condition(before: &[Mark]) -> bool
     ensures { result ≡ in_condition (reverse before.now) }
 {
-    let mut at = before.len();
-    'elements: while at > 0 {
-        at -= 1;
-        let mark = &before[at];
+    let mut rest = before;
+    'elements: while let Some((mark, earlier)) = rest.split_last() {
         if is_braces(mark) || is_semicolon(mark) {
             return false;
         }
-        if is_condition(mark.keyword) && (at == 0 || !is_dot(&before[at - 1])) {
+        if is_condition(mark.keyword) && !last_dot(earlier) {
             return true;
         }
+        rest = earlier;
     }
     false
+}
+
+/// Whether the last element is a dot.
+fn last_dot(marks: &[Mark]) -> bool
+    ensures { result ≡ first_is is_dot (reverse marks.now) }
+{
+    match marks.split_last() {
+        Some((last, _)) => is_dot(last),
+        None => false,
+    }
 }
 
 fn is_closure(blocks: &[u32], mark: &Mark) -> bool
@@ -70,7 +81,7 @@ fn labels_length(blocks: &[u32], marks: &[Mark]) -> usize
 /// How many elements the angle part and the arguments of a use are.
 fn call_length(marks: &[Mark]) -> usize
     ensures value { result ≡ call_length marks.now }
-    ensures bound { result ≤ length marks.now + 1 }
+    ensures bound { result ≤ length marks.now }
 {
     let angles = use_angles(marks);
     if first_arguments(behind(marks, angles)) {
@@ -83,7 +94,8 @@ fn call_length(marks: &[Mark]) -> usize
 /// How many elements the use is that begins `marks`; 0 where none does.
 #[tactic(auto, unfolding(crate::specs::Uses::use_length))]
 pub fn use_length(blocks: &[u32], before: &[Mark], marks: &[Mark]) -> usize
-    ensures { result ≡ use_length blocks.now (reverse before.now) marks.now }
+    ensures value { result ≡ use_length blocks.now (reverse before.now) marks.now }
+    ensures bound { result ≤ length marks.now }
 {
     if !first_use(marks) {
         return 0;
