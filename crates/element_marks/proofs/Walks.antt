@@ -93,9 +93,10 @@ pushed_piece : (named : Option Span) (types others : List Span) → (types ++ wi
 pushed_piece None types others = ap (λ l. l ++ others) (append-nil types)
 pushed_piece (Some piece) types others = append_assoc types (piece ∷ []) others
 
-pub pieces_further : (types : List Span) (marks : List Mark) (piece : ℕ) → 0 < length marks → piece ≡ length_before stop.Comma 0 0 marks → (types ++ with_piece (named_type 0 (take piece marks)) []) ++ pieces 0 (drop (piece + 1) marks) ≡ types ++ pieces 0 marks
+pub pieces_further : (types : List Span) (marks : List Mark) (piece : ℕ) → 0 < length marks → piece ≡ length_before stop.Comma 0 0 marks → (types ++ with_piece (named_type 0 (take piece marks)) []) ++ pieces 0 (drop 1 (drop piece marks)) ≡ types ++ pieces 0 marks
 pieces_further types marks piece some is =
-    ap (λ n. (types ++ with_piece (named_type 0 (take piece marks)) []) ++ pieces 0 (drop n marks)) (add-one piece)
+    ap (λ l. (types ++ with_piece (named_type 0 (take piece marks)) []) ++ pieces 0 l) (drop-drop 1 piece marks)
+    ∙ ap (λ n. (types ++ with_piece (named_type 0 (take piece marks)) []) ++ pieces 0 (drop n marks)) (add-one piece)
     ∙ pushed_piece (named_type 0 (take piece marks)) types (pieces 0 (drop (suc piece) marks))
     ∙ ap (λ l. types ++ l) (pieces_step marks piece some is)
 
@@ -231,3 +232,11 @@ fine_further at (suc more) marks is some =
     ap (λ n. fine n (accessors_from false 0 (drop (at + suc more) marks))) (add-suc at more)
     ∙ fine_then at (at + more) (word_at (drop at marks)) (accessors_from false 0 (drop (at + suc more) marks)) (word_there false (drop at marks) (omega (arith, is)))
     ∙ ap (fine at) (sym (accessors_further false at (suc more) marks is some))
+
+fine_err : (at fault : ℕ) → fine at (Err fault) ≡ false
+fine_err zero fault = refl
+fine_err (suc at) fault = refl
+
+pub fine_no : (at : ℕ) (marks : List Mark) → 0 < length marks → 0 ≡ accessor_length false marks → fine at (accessors_from false 0 marks) ≡ false
+fine_no at [] some is = absurd (omega (arith, some))
+fine_no at (mark ∷ marks) some is = ap (fine at) (accessors_fault false (mark ∷ marks) mark refl is) ∙ fine_err at mark.start

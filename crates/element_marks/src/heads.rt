@@ -2,7 +2,8 @@
 
 ghost use Rattle.std.specs.Prelude.{◌≡◌, ◌+◌, ◌<◌, ◌≤◌, ◌^◌, drop, length};
 ghost use Rattle.element_marks.specs.Sorts.{is_arguments, is_braces, is_colon, is_equals, is_name, is_parentheses, is_pattern, is_use};
-ghost use Rattle.element_marks.specs.Heads.{attribute_length, before_member, modifies_before, dots_length, first_angles, first_is, modifier_length, name_tail, prefix_length, starts};
+ghost use Rattle.element_marks.specs.Passes.{HeadsKnown};
+ghost use Rattle.element_marks.specs.Heads.{attribute_length, before_member, modifies_before, dots_length, first_angles, first_is, head, modifier_length, name_tail, prefix_length, starts};
 
 use crate::mark::Mark;
 use crate::sorts::{
@@ -212,14 +213,27 @@ pub fn starts(marks: &[Mark]) -> bool
     }
 }
 
-/// How many elements the head is that begins here, where those of the later elements are known.
-pub fn head(marks: &[Mark]) -> usize {
+/// The head of the first element, which is known.
+fn known_head(marks: &[Mark]) -> usize
+    requires { HeadsKnown marks.now }
+    ensures value { result ≡ head marks.now }
+    ensures bound { result ≤ length marks.now }
+{
+    match marks.first() {
+        Some(mark) => mark.head,
+        None => 0,
+    }
+}
+
+/// How many elements the head is that begins here, where those of the later elements are known; 0 where none does.
+pub fn head(marks: &[Mark]) -> usize
+    requires { HeadsKnown (drop 1 marks.now) }
+    ensures { result ≡ head marks.now }
+{
     let prefix = prefix_length(marks);
     if prefix == 0 {
         return if starts(marks) { 1 } else { 0 };
     }
-    match marks.get(prefix) {
-        Some(next) if next.head > 0 => prefix + next.head,
-        _ => 0,
-    }
+    let later = known_head(behind(marks, prefix));
+    if later == 0 { 0 } else { prefix + later }
 }

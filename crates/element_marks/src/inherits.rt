@@ -91,7 +91,7 @@ fn pieces(alloc: Global, clause: &[Mark]) -> Result<Vec<Span>, AllocError>
     'pieces: while !rest.is_empty() {
         let length = length_before(Stop::Comma, rest);
         push_piece(&mut types, named_type(&rest[..length]))?;
-        rest = behind(rest, length + 1);
+        rest = behind(behind(rest, length), 1);
     }
     Ok(types)
 }

@@ -3,7 +3,7 @@
 ghost use Rattle.std.specs.Prelude.{◌≡◌, ◌≤◌, length, reverse};
 ghost use Rattle.element_marks.specs.Sorts.{is_dot};
 ghost use Rattle.element_marks.specs.Heads.{first_is};
-ghost use Rattle.element_marks.specs.Uses.{call_length, in_condition, is_closure, labels_length, use_angles, use_length};
+ghost use Rattle.element_marks.specs.Uses.{call_length, closures_length, in_condition, is_closure, labels_length, use_angles, use_length};
 
 use crate::heads::{behind, first_arguments, first_use};
 use crate::mark::Mark;
@@ -91,8 +91,20 @@ fn call_length(marks: &[Mark]) -> usize
     }
 }
 
+/// How many elements the closures are that begin `marks`.
+fn closures_length(blocks: &[u32], before: &[Mark], marks: &[Mark]) -> usize
+    ensures value { result ≡ closures_length blocks.now (reverse before.now) marks.now }
+    ensures bound { result ≤ length marks.now }
+{
+    match marks.first() {
+        Some(closure) if is_closure(blocks, closure) && !in_condition(before) => {
+            1 + labels_length(blocks, behind(marks, 1))
+        }
+        _ => 0,
+    }
+}
+
 /// How many elements the use is that begins `marks`; 0 where none does.
-#[tactic(auto, unfolding(crate::specs::Uses::use_length))]
 pub fn use_length(blocks: &[u32], before: &[Mark], marks: &[Mark]) -> usize
     ensures value { result ≡ use_length blocks.now (reverse before.now) marks.now }
     ensures bound { result ≤ length marks.now }
@@ -100,12 +112,7 @@ pub fn use_length(blocks: &[u32], before: &[Mark], marks: &[Mark]) -> usize
     if !first_use(marks) {
         return 0;
     }
-    let called = 1 + call_length(behind(marks, 1));
-    let rest = behind(marks, called);
-    match rest.first() {
-        Some(closure) if is_closure(blocks, closure) && !in_condition(before) => {
-            called + 1 + labels_length(blocks, behind(rest, 1))
-        }
-        _ => called,
-    }
+    let name = behind(marks, 1);
+    let call = call_length(name);
+    1 + call + closures_length(blocks, before, behind(name, call))
 }
