@@ -3,7 +3,7 @@
 ghost use Rattle.std.specs.Prelude.{◌≡◌, ◌+◌, ◌-◌, ◌<◌, ◌≤◌, ◌^◌, replicate, None, IfOk, IfSome, OnOk, if◌then◌else◌};
 ghost use Rattle.std.specs.List.{list_any};
 ghost use Rattle.swift_lexer.specs.Trees.{forest_of};
-ghost use Rattle.element_marks.specs.Heads.{with_angles, with_heads, with_joins, with_modifiers};
+ghost use Rattle.element_marks.specs.Heads.{in_list, with_angles, with_heads, with_joins, with_modifiers};
 ghost use Rattle.element_marks.specs.Passes.{AnglesUnset, closes_of, opens_of};
 ghost use Rattle.element_marks.specs.Levels.{level, own_marks};
 
@@ -14,15 +14,12 @@ use std::alloc::{AllocError, Global};
 use swift_lexer::Element;
 
 /// The marks of the elements of a list.
-#[tactic(auto, unfolding(crate::specs::Levels::level, crate::specs::Heads::in_list))]
+#[tactic(auto, unfolding(crate::specs::Levels::level))]
 pub fn marks_in(alloc: Global, text: &[u8], elements: &[Element]) -> Result<Vec<Mark>, AllocError>
     ensures { IfOk result (λ marks. marks.items ≡ level text.now (forest_of elements.now)) }
 {
     let mut marks = own_marks(alloc, text, elements)?;
-    set_joins(&mut marks);
-    set_angles(alloc, &mut marks)?;
-    set_modifiers(&mut marks);
-    set_heads(&mut marks);
+    set_neighbours(alloc, &mut marks)?;
     Ok(marks)
 }
 
@@ -35,6 +32,19 @@ fn own_marks(alloc: Global, text: &[u8], elements: &[Element]) -> Result<Vec<Mar
         marks.push(mark_of(text, element))?;
     }
     Ok(marks)
+}
+
+/// What the elements are by their neighbours, in one pass for each field.
+#[tactic(auto, unfolding(crate::specs::Heads::in_list))]
+fn set_neighbours(alloc: Global, marks: &mut [Mark]) -> Result<(), AllocError>
+    requires { AnglesUnset marks.old }
+    ensures { OnOk result (marks.new ≡ in_list marks.old) }
+{
+    set_joins(marks);
+    set_angles(alloc, marks)?;
+    set_modifiers(marks);
+    set_heads(marks);
+    Ok(())
 }
 
 fn set_joins(marks: &mut [Mark])
