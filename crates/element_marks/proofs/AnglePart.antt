@@ -1,5 +1,5 @@
 -- Angle parts, by a table of where each angle depth is reached next.
-use Rattle.std.proofs.Common.{◌≡◌, refl, ℕ, zero, suc, ◌+◌, ◌-◌, ◌<◌, ◌≤◌, ◌==◌, ◌∙◌, ◌⊎◌, inl, inr, ap, sym, subst, arith, eq-eqb, length-set, get_or, get_or-set_same, get_or-set_other, set, replicate, List, [], ◌∷◌, length, drop, Bool, true, false, ◌||◌, if◌then◌else◌, Option, Some}
+use Rattle.std.proofs.Common.{◌≡◌, refl, ℕ, zero, suc, ◌+◌, ◌-◌, ◌<◌, ◌≤◌, ◌==◌, ◌∙◌, inl, inr, ap, sym, subst, arith, eq-eqb, length-set, get_or, get_or-set_same, get_or-set_other, set, replicate, List, [], ◌∷◌, length, drop, Bool, true, false, ◌||◌, if◌then◌else◌, Option, Some}
 use Rattle.std.proofs.lemmas.Bool.{cases_eq, ne_eqb}
 use Rattle.element_marks.specs.declared.mark.Mark.{Mark}
 use Rattle.std.specs.List.{list_any}
@@ -12,8 +12,9 @@ use Rattle.element_marks.proofs.Further.{further, further_further, further_less,
 
 same_test : (a b x : ℕ) → ((a + x) == (b + x)) ≡ (a == b)
 same_test a b x = elim (cases_eq a b) [
-    inl same ↦ eq-eqb (a + x) (b + x) (omega (arith, same)) ∙ sym (eq-eqb a b same)
-  | inr other ↦ ne_eqb (a + x) (b + x) (λ same. other (omega (arith, same))) ∙ sym (ne_eqb a b other) ]
+  | inl same ↦ eq-eqb (a + x) (b + x) (omega (arith, same)) ∙ sym (eq-eqb a b same)
+  | inr other ↦ ne_eqb (a + x) (b + x) (λ same. other (omega (arith, same))) ∙ sym (ne_eqb a b other)
+]
 
 moved_by : (b : Bool) (count here from_one : ℕ) → here ≡ further count from_one → (if b then suc count else here) ≡ further count (if b then 1 else from_one)
 moved_by true count here from_one is = omega arith
@@ -29,15 +30,15 @@ angles_moved count opened closed x (mark ∷ marks) =
     let unmoved_right : closed + mark.closes ≡ closed + mark.closes + 0 = omega arith in
     let more : suc count ≡ count + 1 = omega arith in
     let later : angles_from (suc count) (opened + x + mark.opens) (closed + x + mark.closes) marks ≡ further count (angles_from 1 (opened + mark.opens) (closed + mark.closes) marks) =
-        ap (λ o. angles_from (suc count) o (closed + x + mark.closes) marks) left
-        ∙ ap (λ c. angles_from (suc count) (opened + mark.opens + x) c marks) right
-        ∙ angles_moved (suc count) (opened + mark.opens) (closed + mark.closes) x marks
-        ∙ ap (λ n. further n (angles_from 0 (opened + mark.opens) (closed + mark.closes) marks)) more
-        ∙ sym (further_further count 1 (angles_from 0 (opened + mark.opens) (closed + mark.closes) marks))
-        ∙ ap (further count) (sym (
-            ap (λ o. angles_from 1 o (closed + mark.closes) marks) unmoved_left
-            ∙ ap (λ c. angles_from 1 (opened + mark.opens + 0) c marks) unmoved_right
-            ∙ angles_moved 1 (opened + mark.opens) (closed + mark.closes) 0 marks))
+    ap (λ o. angles_from (suc count) o (closed + x + mark.closes) marks) left
+    ∙ ap (λ c. angles_from (suc count) (opened + mark.opens + x) c marks) right
+    ∙ angles_moved (suc count) (opened + mark.opens) (closed + mark.closes) x marks
+    ∙ ap (λ n. further n (angles_from 0 (opened + mark.opens) (closed + mark.closes) marks)) more
+    ∙ sym (further_further count 1 (angles_from 0 (opened + mark.opens) (closed + mark.closes) marks))
+    ∙ ap (further count) (sym (
+    ap (λ o. angles_from 1 o (closed + mark.closes) marks) unmoved_left
+    ∙ ap (λ c. angles_from 1 (opened + mark.opens + 0) c marks) unmoved_right
+    ∙ angles_moved 1 (opened + mark.opens) (closed + mark.closes) 0 marks))
     in
     ap (λ o. if o == (closed + x + mark.closes) then suc count else angles_from (suc count) (opened + x + mark.opens) (closed + x + mark.closes) marks) left
     ∙ ap (λ c. if (opened + mark.opens + x) == c then suc count else angles_from (suc count) (opened + x + mark.opens) (closed + x + mark.closes) marks) right
@@ -71,23 +72,24 @@ table_there at depth now d mark marks is other =
     ap (λ n. further n (angles_from 0 depth d marks)) more
     ∙ sym (further_further at 1 (angles_from 0 depth d marks))
     ∙ ap (further at) (
-        sym (angles_moved 1 depth d mark.closes marks)
-        ∙ ap (λ o. angles_from 1 o (d + mark.closes) marks) (sym is)
-        ∙ sym (ap (λ b. if b then 1 else angles_from 1 (now + mark.opens) (d + mark.closes) marks) missed))
+    sym (angles_moved 1 depth d mark.closes marks)
+    ∙ ap (λ o. angles_from 1 o (d + mark.closes) marks) (sym is)
+    ∙ sym (ap (λ b. if b then 1 else angles_from 1 (now + mark.opens) (d + mark.closes) marks) missed))
 
 table_next : (table : List ℕ) (at depth now : ℕ) (mark : Mark) (marks : List Mark) → IsTable table (suc at) depth marks → now + mark.opens ≡ depth + mark.closes → IsTable (set table depth (suc at)) at now (mark ∷ marks)
 table_next table at depth now mark marks before is = λ d within. elim (cases_eq d depth) [
-    inl same ↦
-        (let room : depth < length table = omega (arith, within, same, length-set table depth (suc at)) in
-        ap (λ k. get_or (set table depth (suc at)) k 0) same
-        ∙ get_or-set_same table depth (suc at) 0 room
-        ∙ table_here at depth now mark marks is
-        ∙ ap (λ k. further at (angles_from 0 now k (mark ∷ marks))) (sym same))
+  | inl same ↦
+      (let room : depth < length table = omega (arith, within, same, length-set table depth (suc at)) in
+      ap (λ k. get_or (set table depth (suc at)) k 0) same
+      ∙ get_or-set_same table depth (suc at) 0 room
+      ∙ table_here at depth now mark marks is
+      ∙ ap (λ k. further at (angles_from 0 now k (mark ∷ marks))) (sym same))
   | inr other ↦
-        (let room : d < length table = omega (arith, within, length-set table depth (suc at)) in
-        get_or-set_other table depth d (suc at) 0 other
-        ∙ before d room
-        ∙ table_there at depth now d mark marks is other) ]
+      (let room : d < length table = omega (arith, within, length-set table depth (suc at)) in
+      get_or-set_other table depth d (suc at) 0 other
+      ∙ before d room
+      ∙ table_there at depth now d mark marks is other)
+]
 
 pub table_step : (table : List ℕ) (at depth now : ℕ) (mark : Mark) (marks : List Mark) → 0 < at → IsTable table at depth marks → now + mark.opens ≡ depth + mark.closes → IsTable (set table depth at) (at - 1) now (mark ∷ marks)
 table_step table zero depth now mark marks some before is = absurd (omega (arith, some))

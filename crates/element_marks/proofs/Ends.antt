@@ -1,14 +1,12 @@
 -- The first and the last of some elements.
-use Rattle.std.proofs.Common.{◌≡◌, refl, ℕ, zero, suc, ◌+◌, ◌-◌, ◌<◌, ◌≤◌, ◌==◌, ◌∙◌, ap, sym, arith, length, length-drop, List, [], ◌∷◌, ◌++◌, drop, reverse, slice_get, Some, None, Bool, true, false, ◌||◌, ◌&&◌, not, if◌then◌else◌}
+use Rattle.std.proofs.Common.{◌≡◌, refl, ℕ, zero, suc, ◌+◌, ◌-◌, ◌<◌, ◌==◌, ◌∙◌, ap, sym, arith, length, length-drop, List, [], ◌∷◌, ◌++◌, drop, reverse, slice_get, Some, Bool, true, false, ◌||◌, ◌&&◌, not, if◌then◌else◌}
 use Rattle.std.proofs.lemmas.List.{reverse-append}
-use Rattle.swift_base.specs.declared.place.Span.{Span}
 use Rattle.element_marks.specs.declared.mark.Mark.{Mark}
 use Rattle.element_marks.specs.Sorts.{is_braces, is_dot, is_semicolon, is_use}
 use Rattle.element_marks.specs.Words.{is_condition}
 use Rattle.element_marks.specs.Spans.{end_of, whole}
 use Rattle.element_marks.specs.Heads.{first_is}
 use Rattle.element_marks.specs.Uses.{call_length, closures_length, in_condition, use_length}
-use Rattle.element_marks.specs.Accessors.{one_if}
 
 end_of_last : (mark : Mark) (marks : List Mark) (last : Mark) → slice_get (mark ∷ marks) (length marks) ≡ Some last → end_of mark.end marks ≡ last.end
 end_of_last mark [] last is = let same : mark ≡ last = cc in ap (λ m. m.end) same

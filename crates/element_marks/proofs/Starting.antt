@@ -1,5 +1,5 @@
 -- Heads where those of the later elements are set, and modifiers where those of the later ones are.
-use Rattle.std.proofs.Common.{◌≡◌, refl, ℕ, zero, suc, ◌+◌, ◌-◌, ◌<◌, ◌≤◌, ◌∙◌, ap, ap₂, sym, subst, arith, min, add-one, List, [], ◌∷◌, length, drop, drop-drop, slice_get, Some, None, Bool, true, false, ◌&&◌, ◌||◌, not, if◌then◌else◌}
+use Rattle.std.proofs.Common.{◌≡◌, refl, ℕ, zero, suc, ◌+◌, ◌<◌, ◌≤◌, ◌∙◌, ap, ap₂, sym, subst, arith, min, List, [], ◌∷◌, length, drop, slice_get, Some, None, Bool, true, false, ◌&&◌, ◌||◌, not, if◌then◌else◌}
 use Rattle.element_marks.specs.declared.words.Keyword.{Keyword}
 use Rattle.element_marks.specs.declared.words.Keyword.TheVariants.{Starts}
 use Rattle.element_marks.specs.declared.mark.Mark.{Mark}
@@ -139,7 +139,7 @@ head_past : (mark : Mark) (marks : List Mark) (m p : ℕ) → suc m ≡ p → fu
 head_past mark marks m p is =
     let at : suc m ≡ 1 + m = omega arith in
     subst (λ q. further (suc m) (head_from 0 0 (drop m marks)) ≡ by_length q (if starts (mark ∷ marks) then 1 else 0) (λ n. head_from 1 n marks)) is
-        (ap (λ n. further n (head_from 0 0 (drop m marks))) at ∙ sym (head_moved 1 m marks))
+    (ap (λ n. further n (head_from 0 0 (drop m marks))) at ∙ sym (head_moved 1 m marks))
 
 -- past an attribute or a modifier, the head goes on behind it
 pub head_step : (marks : List Mark) (prefix : ℕ) → prefix ≡ prefix_length marks → 0 < prefix → further prefix (head (drop prefix marks)) ≡ head marks

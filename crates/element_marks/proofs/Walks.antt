@@ -1,5 +1,5 @@
 -- Walks over elements: what is left behind those that were skipped.
-use Rattle.std.proofs.Common.{◌≡◌, refl, ℕ, zero, suc, ◌+◌, ◌-◌, ◌<◌, ◌≤◌, ◌==◌, ◌∙◌, ap, sym, subst, arith, add-one, add-suc, append-nil, append_assoc, length, length-drop, List, [], ◌∷◌, ◌++◌, take, drop, drop-drop, slice_get, Option, Some, None, Result, Ok, Err, Bool, true, false, ◌&&◌, ◌||◌, not, if◌then◌else◌}
+use Rattle.std.proofs.Common.{◌≡◌, refl, ℕ, zero, suc, ◌+◌, ◌-◌, ◌<◌, ◌≤◌, ◌==◌, ◌∙◌, ap, sym, subst, arith, add-one, add-suc, append-nil, append_assoc, length, length-drop, List, [], ◌∷◌, ◌++◌, take, drop, drop-drop, slice_get, Option, Some, None, Result, Ok, Err, Bool, true, false, ◌||◌, if◌then◌else◌}
 use Rattle.swift_base.specs.declared.place.Span.{Span}
 use Rattle.element_marks.specs.declared.mark.Mark.{Mark}
 use Rattle.element_marks.specs.declared.inherits.Stop.TheVariants as stop

@@ -18,7 +18,8 @@ mod words;
 
 pub use accessors::{accessor_words, lists_accessors, observes};
 pub use heads::{
-    attribute_length, behind, dots_length, first_angles, first_braces, first_colon, first_parentheses,
+    attribute_length, behind, dots_length, first_angles, first_braces, first_colon,
+    first_parentheses,
 };
 pub use inherits::{Stop, inherited, length_before};
 pub use level::marks_in;
@@ -26,9 +27,12 @@ pub use mark::{Mark, Sort};
 pub use marks::part;
 pub use runs::{before_braces, before_equals, binding_length, item_length};
 pub use sorts::{
-    is_at, is_braces, is_builtin_pound, is_colon, is_comma, is_dot, is_equals, is_name, is_operator,
-    is_parentheses, is_pattern, is_pound, is_quoted, is_semicolon, is_use, is_word,
+    is_at, is_braces, is_builtin_pound, is_colon, is_comma, is_dot, is_equals, is_name,
+    is_operator, is_parentheses, is_pattern, is_pound, is_quoted, is_semicolon, is_use, is_word,
 };
 pub use spans::{behind_first, between, name_of, span_of, whole};
 pub use uses::use_length;
 pub use words::{Keyword, Starter, is_reserved, is_underscore};
+
+#[cfg(test)]
+mod tests;

@@ -109,7 +109,10 @@ pub const WORDS: [(&[u8], Keyword); 72] = [
     (b"subscript", Keyword::Starts(Starter::Subscript)),
     (b"case", Keyword::Starts(Starter::Case)),
     (b"operator", Keyword::Starts(Starter::Operator)),
-    (b"precedencegroup", Keyword::Starts(Starter::Precedencegroup)),
+    (
+        b"precedencegroup",
+        Keyword::Starts(Starter::Precedencegroup),
+    ),
     (b"actor", Keyword::Starts(Starter::Actor)),
     (b"macro", Keyword::Starts(Starter::Macro)),
     (b"try", Keyword::Joining),

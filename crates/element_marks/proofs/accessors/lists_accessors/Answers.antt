@@ -7,7 +7,7 @@ pub returns-then-length-eq0 : goal.returns-then-length-eq0
 unfolding lists_accessors
 returns-then-length-eq0 c =
     sym (fine_no c.accessors.at (drop c.accessors.at c.args.marks.now) (omega (arith, c.accessors-test.true, length-drop c.accessors.at c.args.marks.now))
-        (sym c.if-length-eq0.true ∙ c.accessor_length-length.ensures.value ∙ ap (accessor_length false) c.behind.ensures))
+    (sym c.if-length-eq0.true ∙ c.accessor_length-length.ensures.value ∙ ap (accessor_length false) c.behind.ensures))
     ∙ c.accessors.invariant
 
 pub accessors-preserved : goal.accessors-preserved

@@ -1,4 +1,4 @@
-use Rattle.std.proofs.Common.{◌≡◌, ◌∙◌, ◌<◌, ap, sym, subst, arith, drop, if◌then◌else◌}
+use Rattle.std.proofs.Common.{◌∙◌, ap, sym, subst, arith, if◌then◌else◌}
 use Rattle.element_marks.specs.Heads.{head}
 use Rattle.element_marks.specs.Passes.{HeadsKnown}
 use Rattle.element_marks.proofs.Further.{further, further_some}

@@ -7,12 +7,12 @@ use Rattle.element_marks.proofs.level.fill_angles.Given as goal
 
 abbrev pub invariant-elements : goal.invariant-elements
 invariant-elements l = record {
-    within : l.at ≤ length l.fn.marks;
-    done : l.marks ≡ finished with_angles l.at l.fn.marks;
-    size : length l.behind ≡ opens_of l.fn.marks + closes_of l.fn.marks + 1;
-    table : IsTable l.behind l.at l.depth (drop l.at l.fn.marks);
-    balance : l.depth + opens_of (drop l.at l.fn.marks) ≡ opens_of l.fn.marks + closes_of (drop l.at l.fn.marks)
-  }
+  within : l.at ≤ length l.fn.marks;
+  done : l.marks ≡ finished with_angles l.at l.fn.marks;
+  size : length l.behind ≡ opens_of l.fn.marks + closes_of l.fn.marks + 1;
+  table : IsTable l.behind l.at l.depth (drop l.at l.fn.marks);
+  balance : l.depth + opens_of (drop l.at l.fn.marks) ≡ opens_of l.fn.marks + closes_of (drop l.at l.fn.marks);
+}
 
 abbrev pub decreases-elements : goal.decreases-elements
 decreases-elements l = l.at

@@ -5,10 +5,10 @@ use Rattle.element_marks.proofs.level.set_heads.Given as goal
 
 abbrev pub invariant-elements : goal.invariant-elements
 invariant-elements l = record {
-    within : l.at ≤ length l.fn.marks;
-    done : l.marks ≡ finished with_heads l.at l.fn.marks;
-    shape : length l.marks ≡ length l.fn.marks
-  }
+  within : l.at ≤ length l.fn.marks;
+  done : l.marks ≡ finished with_heads l.at l.fn.marks;
+  shape : length l.marks ≡ length l.fn.marks;
+}
 
 abbrev pub decreases-elements : goal.decreases-elements
 decreases-elements l = l.at
