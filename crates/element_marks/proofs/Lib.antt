@@ -1,2 +1,7 @@
+pub mod AnglePart
+pub mod Backward
+pub mod Ends
+pub mod Further
 pub mod Rows
+pub mod Starting
 pub mod Walks

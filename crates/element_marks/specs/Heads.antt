@@ -1,7 +1,6 @@
 -- With what a declaration begins: attributes and modifiers in any order, then a starter.
 -- After The Swift Programming Language, Attributes and Declaration Modifiers; how far each goes is this project's own.
-use Rattle.std.specs.Prelude.{ℕ, zero, suc, ◌+◌, ◌-◌, ◌==◌, min, List, [], ◌∷◌, length, drop, Option, Some, None, Bool, true, false, ◌&&◌, ◌||◌, not, if◌then◌else◌}
-use Rattle.swift_base.specs.declared.place.Span.{Span}
+use Rattle.std.specs.Prelude.{ℕ, zero, suc, ◌+◌, ◌==◌, min, List, [], ◌∷◌, length, drop, Option, Some, None, Bool, false, ◌&&◌, ◌||◌, not, if◌then◌else◌}
 use Rattle.element_marks.specs.declared.words.Keyword.{Keyword}
 use Rattle.element_marks.specs.declared.words.Keyword.TheVariants.{Starts}
 use Rattle.element_marks.specs.declared.mark.Mark.{Mark}

@@ -1,5 +1,5 @@
 -- Extended types and inheritance clauses: after The Swift Programming Language, Declarations and Types.
-use Rattle.std.specs.Prelude.{ℕ, zero, suc, ◌+◌, ◌-◌, ◌==◌, List, [], ◌∷◌, ◌++◌, take, drop, Option, Some, None, Bool, true, false, ◌&&◌, ◌||◌, not, if◌then◌else◌}
+use Rattle.std.specs.Prelude.{ℕ, zero, suc, ◌+◌, ◌==◌, List, [], ◌∷◌, take, drop, Option, Some, None, Bool, ◌&&◌, ◌||◌, if◌then◌else◌}
 use Rattle.swift_base.specs.declared.place.Span.{Span}
 use Rattle.element_marks.specs.declared.mark.Mark.{Mark}
 use Rattle.element_marks.specs.declared.inherits.Stop.{Stop}

@@ -4,6 +4,7 @@ pub mod Heads
 pub mod Inherits
 pub mod Levels
 pub mod Marks
+pub mod Passes
 pub mod Runs
 pub mod Sorts
 pub mod Spans

@@ -1,8 +1,7 @@
 -- What each element of a list is by its own text and by its neighbours: this project's own, after The Swift Programming Language.
-use Rattle.std.specs.Prelude.{ℕ, suc, ◌+◌, ◌-◌, ◌==◌, nat_lt, List, [], ◌∷◌, length, count_by, slice_index, slice_range, Option, Some, None, Bool, true, false, ◌&&◌, ◌||◌, not, if◌then◌else◌, codes}
+use Rattle.std.specs.Prelude.{ℕ, ◌-◌, ◌==◌, nat_lt, List, length, count_by, slice_index, slice_range, Option, Some, None, Bool, true, false, ◌&&◌, ◌||◌, not, if◌then◌else◌, codes}
 use Rattle.std.specs.List.{list_any}
 use Rattle.std.specs.Str.{bytes_eq}
-use Rattle.swift_base.specs.declared.place.Span.{Span}
 use Rattle.swift_lexer.specs.declared.token.Class.{Class}
 use Rattle.swift_lexer.specs.declared.token.Class.TheVariants as class
 use Rattle.swift_lexer.specs.declared.token.Token.{Token}

@@ -1,5 +1,5 @@
 -- How many elements declarations and bindings are: after The Swift Programming Language, Declarations; where each ends is this project's own.
-use Rattle.std.specs.Prelude.{ℕ, suc, ◌+◌, ◌==◌, List, [], ◌∷◌, drop, Bool, true, false, ◌&&◌, ◌||◌, not, if◌then◌else◌}
+use Rattle.std.specs.Prelude.{ℕ, suc, ◌+◌, ◌==◌, List, [], ◌∷◌, drop, Bool, false, ◌&&◌, ◌||◌, not, if◌then◌else◌}
 use Rattle.element_marks.specs.declared.mark.Mark.{Mark}
 use Rattle.element_marks.specs.Sorts.{is_comma, is_colon, is_equals, is_pattern, is_semicolon}
 use Rattle.element_marks.specs.Heads.{first_is}

@@ -1,9 +1,9 @@
 -- How far a macro use goes: after SE-0382; this project's own.
-use Rattle.std.specs.Prelude.{ℕ, zero, suc, ◌+◌, ◌-◌, ◌==◌, nat_le, nat_lt, List, [], ◌∷◌, ◌++◌, length, take, drop, Option, Some, None, Bool, true, false, ◌&&◌, ◌||◌, not, if◌then◌else◌}
+use Rattle.std.specs.Prelude.{ℕ, suc, ◌+◌, ◌==◌, nat_le, List, [], ◌∷◌, length, drop, Bool, true, false, ◌&&◌, ◌||◌, not, if◌then◌else◌}
 use Rattle.std.specs.List.{list_any}
 use Rattle.element_marks.specs.declared.mark.Mark.{Mark}
 use Rattle.element_marks.specs.Words.{is_condition}
-use Rattle.element_marks.specs.Sorts.{is_arguments, is_word, is_use, is_colon, is_semicolon, is_dot, is_parentheses, is_braces}
+use Rattle.element_marks.specs.Sorts.{is_arguments, is_word, is_use, is_colon, is_semicolon, is_dot, is_braces}
 use Rattle.element_marks.specs.Heads.{first_is}
 
 -- going back over the elements before a use, the first of braces, a `;` and a word that begins a condition is such a word

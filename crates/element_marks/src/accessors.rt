@@ -1,12 +1,13 @@
 // Accessors.
 
-ghost use Rattle.std.specs.Prelude.{◌≡◌, ◌+◌, ◌≤◌, false, true, length};
+ghost use Rattle.std.specs.Prelude.{◌≡◌, ◌-◌, ◌≤◌, ◌++◌, [], OnOk, false, true, drop, length};
 ghost use Rattle.element_marks.specs.Answers.{Answers};
-ghost use Rattle.element_marks.specs.Accessors.{accessor_front, accessor_length, accessors_from, effects_length, one_if, lists_accessors, observes_from, word_from};
+ghost use Rattle.element_marks.specs.Accessors.{accessor_front, accessor_length, accessors_from, effects_length, one_if, lists_accessors, observes_from, with_first, word_from};
 
 use crate::heads::{attribute_length, behind, first_braces, first_parentheses, prefix_length};
 use crate::mark::Mark;
 use crate::sorts::is_parentheses;
+use crate::spans::span_of;
 use crate::words::{is_accessor, is_accessor_modifier, is_async, is_observer, is_throws};
 use std::alloc::{AllocError, Global};
 use swift_base::{Refusal, Span};
@@ -60,7 +61,8 @@ fn effects_length(marks: &[Mark]) -> usize
 /// have.
 #[tactic(auto, unfolding(crate::specs::Accessors::accessor_length))]
 pub fn accessor_length(marks: &[Mark], braces_wanted: bool) -> usize
-    ensures { result ≡ accessor_length braces_wanted marks.now }
+    ensures value { result ≡ accessor_length braces_wanted marks.now }
+    ensures bound { result ≤ length marks.now }
 {
     let words = word_length(marks);
     if words == 0 {
@@ -80,7 +82,7 @@ pub fn accessor_length(marks: &[Mark], braces_wanted: bool) -> usize
 fn accessor_front(words: usize, marks: &[Mark]) -> usize
     requires { words ≤ length marks.now }
     ensures value { result ≡ accessor_front words marks.now }
-    ensures bound { result ≤ length marks.now + length marks.now + 1 }
+    ensures bound { result ≤ length marks.now }
 {
     let named = words + one_if(first_parentheses(behind(marks, words)));
     named + effects_length(behind(marks, named))
@@ -93,14 +95,17 @@ fn one_if(b: bool) -> usize
     if b { 1 } else { 0 }
 }
 
-/// The word of the accessor that begins here.
-fn accessor_word(marks: &[Mark]) -> Option<Span> {
-    let words = word_length(marks);
-    let mark = marks.get(words.saturating_sub(1))?;
-    Some(Span {
-        start: mark.start,
-        end: mark.end,
-    })
+/// One more of the words: that of the accessor that begins here.
+fn push_word(words: &mut Vec<Span>, marks: &[Mark]) -> Result<(), AllocError>
+    ensures { OnOk result (words.new.items ≡ words.old.items ++ with_first (drop (word_from 0 0 marks.now - 1) marks.now) []) }
+{
+    match behind(marks, word_length(marks).saturating_sub(1)).first() {
+        Some(mark) => {
+            words.push(span_of(mark))?;
+            Ok(())
+        }
+        None => Ok(()),
+    }
 }
 
 /// Whether the elements are one accessor or more, with braces or without.
@@ -146,9 +151,7 @@ pub fn accessor_words(alloc: Global, marks: &[Mark]) -> Result<Vec<Span>, Refusa
         if length == 0 {
             return Err(Refusal::Fault(mark.start));
         }
-        if let Some(word) = accessor_word(behind(marks, at)) {
-            words.push(word).map_err(AllocError::from)?;
-        }
+        push_word(&mut words, behind(marks, at))?;
         at += length;
     }
     Ok(words)

@@ -2,7 +2,8 @@
 
 ghost use Rattle.std.specs.Prelude.{◌≡◌, ◌+◌, ◌<◌, ◌≤◌, ◌^◌, drop, length};
 ghost use Rattle.element_marks.specs.Sorts.{is_arguments, is_braces, is_colon, is_equals, is_name, is_parentheses, is_pattern, is_use};
-ghost use Rattle.element_marks.specs.Heads.{attribute_length, before_member, modifies_before, dots_length, first_angles, first_is, modifier_length, name_tail, prefix_length, starts};
+ghost use Rattle.element_marks.specs.Passes.{HeadsKnown};
+ghost use Rattle.element_marks.specs.Heads.{attribute_length, before_member, modifies_before, dots_length, first_angles, first_is, head, modifier_length, name_tail, prefix_length, starts};
 
 use crate::mark::Mark;
 use crate::sorts::{
@@ -123,7 +124,7 @@ pub fn first_angles(marks: &[Mark]) -> usize
 
 fn name_tail(marks: &[Mark]) -> usize
     ensures value { result ≡ name_tail marks.now }
-    ensures bound { result ≤ length marks.now + length marks.now + 3 }
+    ensures bound { result ≤ length marks.now }
 {
     let dots = dots_length(marks);
     let named = dots + first_angles(behind(marks, dots));
@@ -138,7 +139,7 @@ fn name_tail(marks: &[Mark]) -> usize
 #[tactic(auto, unfolding(crate::specs::Heads::attribute_length))]
 pub fn attribute_length(marks: &[Mark]) -> usize
     ensures value { result ≡ attribute_length marks.now }
-    ensures bound { result ≤ length marks.now + length marks.now + 3 }
+    ensures bound { result ≤ length marks.now }
 {
     let (Some(at), Some(name)) = (marks.first(), marks.get(1)) else {
         return 0;
@@ -167,7 +168,8 @@ fn before_member(next: Option<Mark>) -> bool
 }
 
 fn modifier_length(marks: &[Mark]) -> usize
-    ensures { result ≡ modifier_length marks.now }
+    ensures value { result ≡ modifier_length marks.now }
+    ensures bound { result ≤ length marks.now }
 {
     let Some(mark) = marks.first() else {
         return 0;
@@ -185,7 +187,7 @@ fn modifier_length(marks: &[Mark]) -> usize
 /// How many elements the attribute or the modifier is that begins here; 0 where none does.
 pub fn prefix_length(marks: &[Mark]) -> usize
     ensures value { result ≡ prefix_length marks.now }
-    ensures bound { result ≤ length marks.now + length marks.now + 3 }
+    ensures bound { result ≤ length marks.now }
 {
     let attribute = attribute_length(marks);
     if attribute == 0 {
@@ -211,14 +213,27 @@ pub fn starts(marks: &[Mark]) -> bool
     }
 }
 
-/// How many elements the head is that begins here, where those of the later elements are known.
-pub fn head(marks: &[Mark]) -> usize {
+/// The head of the first element, which is known.
+fn known_head(marks: &[Mark]) -> usize
+    requires { HeadsKnown marks.now }
+    ensures value { result ≡ head marks.now }
+    ensures bound { result ≤ length marks.now }
+{
+    match marks.first() {
+        Some(mark) => mark.head,
+        None => 0,
+    }
+}
+
+/// How many elements the head is that begins here, where those of the later elements are known; 0 where none does.
+pub fn head(marks: &[Mark]) -> usize
+    requires { HeadsKnown (drop 1 marks.now) }
+    ensures { result ≡ head marks.now }
+{
     let prefix = prefix_length(marks);
     if prefix == 0 {
         return if starts(marks) { 1 } else { 0 };
     }
-    match marks.get(prefix) {
-        Some(next) if next.head > 0 => prefix + next.head,
-        _ => 0,
-    }
+    let later = known_head(behind(marks, prefix));
+    if later == 0 { 0 } else { prefix + later }
 }

@@ -1,7 +1,7 @@
 // Extended types and inheritance clauses.
 
-ghost use Rattle.std.specs.Prelude.{◌≡◌, ◌≤◌, IfOk, length};
-ghost use Rattle.element_marks.specs.Inherits.{inherited, length_before, named_type, pieces, stops};
+ghost use Rattle.std.specs.Prelude.{◌≡◌, ◌≤◌, ◌++◌, [], IfOk, OnOk, length};
+ghost use Rattle.element_marks.specs.Inherits.{inherited, length_before, named_type, pieces, stops, with_piece};
 
 use crate::heads::{attribute_length, behind, first_colon};
 use crate::mark::Mark;
@@ -90,10 +90,21 @@ fn pieces(alloc: Global, clause: &[Mark]) -> Result<Vec<Span>, AllocError>
     let mut rest = clause;
     'pieces: while !rest.is_empty() {
         let length = length_before(Stop::Comma, rest);
-        if let Some(named) = named_type(&rest[..length]) {
-            types.push(named)?;
-        }
-        rest = behind(rest, length + 1);
+        push_piece(&mut types, named_type(&rest[..length]))?;
+        rest = behind(behind(rest, length), 1);
     }
     Ok(types)
+}
+
+/// One more of the types, where the piece names one.
+fn push_piece(types: &mut Vec<Span>, named: Option<Span>) -> Result<(), AllocError>
+    ensures { OnOk result (types.new.items ≡ types.old.items ++ with_piece named []) }
+{
+    match named {
+        Some(named) => {
+            types.push(named)?;
+            Ok(())
+        }
+        None => Ok(()),
+    }
 }

@@ -1,7 +1,9 @@
 // How far a macro use goes.
 
-ghost use Rattle.std.specs.Prelude.{◌≡◌, ◌+◌, ◌≤◌, length, reverse};
-ghost use Rattle.element_marks.specs.Uses.{call_length, in_condition, is_closure, labels_length, use_angles, use_length};
+ghost use Rattle.std.specs.Prelude.{◌≡◌, ◌≤◌, length, reverse};
+ghost use Rattle.element_marks.specs.Sorts.{is_dot};
+ghost use Rattle.element_marks.specs.Heads.{first_is};
+ghost use Rattle.element_marks.specs.Uses.{call_length, closures_length, in_condition, is_closure, labels_length, use_angles, use_length};
 
 use crate::heads::{behind, first_arguments, first_use};
 use crate::mark::Mark;
@@ -13,18 +15,27 @@ use crate::words::is_condition;
 fn in_condition(before: &[Mark]) -> bool
     ensures { result ≡ in_condition (reverse before.now) }
 {
-    let mut at = before.len();
-    'elements: while at > 0 {
-        at -= 1;
-        let mark = &before[at];
+    let mut rest = before;
+    'elements: while let Some((mark, earlier)) = rest.split_last() {
         if is_braces(mark) || is_semicolon(mark) {
             return false;
         }
-        if is_condition(mark.keyword) && (at == 0 || !is_dot(&before[at - 1])) {
+        if is_condition(mark.keyword) && !last_dot(earlier) {
             return true;
         }
+        rest = earlier;
     }
     false
+}
+
+/// Whether the last element is a dot.
+fn last_dot(marks: &[Mark]) -> bool
+    ensures { result ≡ first_is is_dot (reverse marks.now) }
+{
+    match marks.split_last() {
+        Some((last, _)) => is_dot(last),
+        None => false,
+    }
 }
 
 fn is_closure(blocks: &[u32], mark: &Mark) -> bool
@@ -70,7 +81,7 @@ fn labels_length(blocks: &[u32], marks: &[Mark]) -> usize
 /// How many elements the angle part and the arguments of a use are.
 fn call_length(marks: &[Mark]) -> usize
     ensures value { result ≡ call_length marks.now }
-    ensures bound { result ≤ length marks.now + 1 }
+    ensures bound { result ≤ length marks.now }
 {
     let angles = use_angles(marks);
     if first_arguments(behind(marks, angles)) {
@@ -80,20 +91,28 @@ fn call_length(marks: &[Mark]) -> usize
     }
 }
 
+/// How many elements the closures are that begin `marks`.
+fn closures_length(blocks: &[u32], before: &[Mark], marks: &[Mark]) -> usize
+    ensures value { result ≡ closures_length blocks.now (reverse before.now) marks.now }
+    ensures bound { result ≤ length marks.now }
+{
+    match marks.first() {
+        Some(closure) if is_closure(blocks, closure) && !in_condition(before) => {
+            1 + labels_length(blocks, behind(marks, 1))
+        }
+        _ => 0,
+    }
+}
+
 /// How many elements the use is that begins `marks`; 0 where none does.
-#[tactic(auto, unfolding(crate::specs::Uses::use_length))]
 pub fn use_length(blocks: &[u32], before: &[Mark], marks: &[Mark]) -> usize
-    ensures { result ≡ use_length blocks.now (reverse before.now) marks.now }
+    ensures value { result ≡ use_length blocks.now (reverse before.now) marks.now }
+    ensures bound { result ≤ length marks.now }
 {
     if !first_use(marks) {
         return 0;
     }
-    let called = 1 + call_length(behind(marks, 1));
-    let rest = behind(marks, called);
-    match rest.first() {
-        Some(closure) if is_closure(blocks, closure) && !in_condition(before) => {
-            called + 1 + labels_length(blocks, behind(rest, 1))
-        }
-        _ => called,
-    }
+    let name = behind(marks, 1);
+    let call = call_length(name);
+    1 + call + closures_length(blocks, before, behind(name, call))
 }
