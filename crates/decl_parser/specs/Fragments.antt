@@ -22,7 +22,7 @@ use Rattle.decl_parser.specs.Faults.{fault}
 use Rattle.decl_parser.specs.Attributes.{attr_of, span_from}
 use Rattle.decl_parser.specs.Found.{Found, found_in}
 use Rattle.decl_parser.specs.Cut.{MembersRead}
-use Rattle.decl_parser.specs.Levels.{insides, items_of_list}
+use Rattle.decl_parser.specs.Levels.{insides, items_of_list, tree_inside}
 
 -- an outline of the shape with nothing in it, of which that part is spliced
 abbrev pub bare : List ℕ → Shape → Span → OutlineSeen
@@ -56,7 +56,7 @@ expression (mark ∷ marks) = no_semicolon (mark ∷ marks)
 
 -- the one group that the elements are
 abbrev pub one_group : Forest → Option Forest
-one_group (cons (nest left inner right) none) = Some inner
+one_group (cons tree none) = tree_inside tree
 one_group _ = None
 
 -- the list that accessors stand in: the text's, or that inside the one pair of braces that it is

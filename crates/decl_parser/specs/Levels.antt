@@ -1,5 +1,5 @@
 -- What stands inside each group, at every depth: this project's own words.
-use Rattle.std.specs.Prelude.{ℕ, List, [], ◌∷◌, Ok}
+use Rattle.std.specs.Prelude.{ℕ, suc, ◌+◌, List, [], ◌∷◌, Option, Some, None, Ok}
 use Rattle.swift_lexer.specs.Trees.{Tree, Forest, leaf, nest, none, cons}
 use Rattle.element_marks.specs.declared.mark.Mark.{Mark}
 use Rattle.element_marks.specs.Levels.{level}
@@ -11,6 +11,11 @@ use Rattle.decl_parser.specs.Insides.{nothing_inside}
 use Rattle.decl_parser.specs.Bindings.{names_inside}
 use Rattle.decl_parser.specs.Found.{found_in}
 use Rattle.decl_parser.specs.Cut.{MembersRead, items_in}
+
+-- the elements inside a group
+abbrev pub tree_inside : Tree → Option Forest
+tree_inside (leaf token) = None
+tree_inside (nest left inner right) = Some inner
 
 -- what stands inside a group, by the elements of its list
 unfoldable pub read_inside : List Mark → List Inside → Inside
@@ -45,3 +50,18 @@ unfoldable mutual
 -- the declarations of a list
 unfoldable pub items_of_list : Place → List ℕ → Forest → MembersRead
 items_of_list place text forest = items_in place (level text forest) (insides text forest) (members text forest)
+
+-- the declarations inside a group, where there is one
+abbrev pub members_by : List ℕ → Option Forest → MembersRead
+members_by text None = Ok []
+members_by text (Some inner) = items_of_list Members text inner
+
+-- how many elements a list has, at every depth
+abbrev mutual
+  pub tree_size : Tree → ℕ
+  tree_size (leaf token) = 1
+  tree_size (nest left inner right) = suc (forest_size inner)
+
+  pub forest_size : Forest → ℕ
+  forest_size none = 0
+  forest_size (cons tree forest) = tree_size tree + forest_size forest

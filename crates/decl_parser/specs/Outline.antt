@@ -24,7 +24,7 @@ abbrev pub OutlineOutcome : Type 0
 OutlineOutcome = Result OutlineSeen ParseFault
 
 -- the one outcome of a text's tokens
-pub tokens_of : List ℕ → Outcome
+unfoldable pub tokens_of : List ℕ → Outcome
 tokens_of text = (some_token_outcome text).0
 
 -- a name's own bytes; other tokens have none

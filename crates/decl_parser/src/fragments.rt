@@ -15,7 +15,7 @@ use crate::fault::{ParseFault, ParseKind, fault};
 use crate::found::{Findings, found_in};
 use crate::inside::Inside;
 use crate::items::items;
-use crate::levels::insides;
+use crate::levels::{group_inside, insides};
 use crate::lists::behind;
 use crate::parse::LONGEST_SOURCE;
 use crate::place::Place;
@@ -163,16 +163,11 @@ fn accessors_inside(text: &[u8], elements: &[Element], marks: &[Mark]) -> Span
 fn one_group(elements: &[Element]) -> Option<&[Element]>
     ensures { option_map (λ inner. forest_of inner.now) result ≡ one_group (forest_of elements.now) }
 {
-    match elements {
-        [
-            Element::Nest {
-                left: _,
-                inner,
-                right: _,
-            },
-        ] => Some(inner),
-        _ => None,
+    let (first, others) = elements.split_first()?;
+    if !others.is_empty() {
+        return None;
     }
+    group_inside(first)
 }
 
 /// The words of the accessors in the text, or in the one pair of braces that it is.

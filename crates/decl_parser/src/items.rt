@@ -1,17 +1,17 @@
 // Lists of elements cut into declarations.
 
-ghost use Rattle.std.specs.Prelude.{◌≡◌, ◌≤◌, ◌+◌, IfOk, drop, length, map, take};
+ghost use Rattle.std.specs.Prelude.{◌≡◌, ◌<◌, ◌≤◌, ◌+◌, ℕ, List, Some, IfOk, length, map, option_map};
 ghost use Rattle.swift_lexer.specs.Trees.{forest_of};
 ghost use Rattle.swift_tree.specs.Outlines.{item_of};
 ghost use Rattle.element_marks.specs.Answers.{Answers};
-ghost use Rattle.decl_parser.specs.Cut.{after, block_of, braces_seen, closed, count_of, ends, head_of, item_at, kind_of, members_place, nothing_more, start_of, starter_of, use_ends, use_fits, whole_item, word_kind};
-ghost use Rattle.decl_parser.specs.Levels.{insides, items_of_list, members};
+ghost use Rattle.decl_parser.specs.Cut.{after, block_of, braces_seen, closed, count_of, ends, head_of, item_at, kind_of, members_at, members_place, nothing_more, start_of, starter_of, use_ends, use_fits, whole_item, word_kind};
+ghost use Rattle.decl_parser.specs.Levels.{forest_size, insides, items_of_list, members, members_by};
 
 use crate::attributes::span_from;
 use crate::fault::{ParseFault, ParseKind, fault};
 use crate::found::{Findings, Search, found};
 use crate::inside::{BlockAt, Inside};
-use crate::levels::insides_without;
+use crate::levels::{group_inside, insides_without};
 use crate::lists::{behind, upto};
 use crate::parts::{Parts, has_members, parts_of};
 use crate::place::{Place, has_place};
@@ -132,8 +132,8 @@ fn item_at(
         behind(marks, head),
         behind(&insides, head),
     )?;
-    let members = match braces {
-        Some(at) => items(alloc, own.text, inside_at(own.elements, at), Place::Members)?,
+    let members = match members_in(own.elements, braces) {
+        Some(inner) => items(alloc, own.text, inner, Place::Members)?,
         None => Vec::new(alloc),
     };
     closed(parts.body, behind(marks, head))?;
@@ -150,18 +150,12 @@ fn count_of(marks: &[Mark]) -> usize
     item_length(head_of(marks), marks)
 }
 
-/// What stands inside the brackets of the element at the place.
-fn inside_at(elements: &[Element], at: usize) -> &[Element] {
-    match elements.get(at) {
-        Some(
-            Element::Nest {
-                left: _,
-                inner,
-                right: _,
-            },
-        ) => inner,
-        _ => &[],
-    }
+/// What stands inside the braces at the place.
+fn members_in(elements: &[Element], place: Option<usize>) -> Option<&[Element]>
+    ensures members { (text : List ℕ) → members_by text (option_map (λ inner. forest_of inner.now) result) ≡ members_at place (members text (forest_of elements.now)) }
+    ensures smaller { (inner : _) → result ≡ Some inner → forest_size (forest_of inner.now) < forest_size (forest_of elements.now) }
+{
+    group_inside(elements.get(place?)?)
 }
 
 fn head_of(own: &[Mark]) -> usize

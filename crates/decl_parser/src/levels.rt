@@ -1,37 +1,67 @@
 // What stands inside each element of a list, at every depth.
 
-ghost use Rattle.std.specs.Prelude.{◌≡◌, IfOk};
-ghost use Rattle.swift_lexer.specs.Trees.{forest_of};
+ghost use Rattle.std.specs.Prelude.{◌≡◌, IfOk, option_map};
+ghost use Rattle.swift_lexer.specs.Trees.{forest_of, tree_of};
 ghost use Rattle.decl_parser.specs.Cut.{without};
-ghost use Rattle.decl_parser.specs.Levels.{insides, read_inside};
+ghost use Rattle.decl_parser.specs.Levels.{inside_of, insides, read_inside, tree_inside};
 
 use crate::bindings::names_inside;
 use crate::found::{Findings, found_in};
 use crate::inside::{Inside, nothing_inside};
+use crate::lists::add;
 use element_marks::{Mark, lists_accessors, marks_in, observes};
 use std::alloc::{AllocError, Global};
 use swift_base::Listed;
 use swift_lexer::Element;
 
+/// What stands inside the brackets of an element, where it is a group.
+pub fn group_inside(element: &Element) -> Option<&[Element]>
+    ensures { option_map (λ inner. forest_of inner.now) result ≡ tree_inside (tree_of element.now) }
+{
+    match element {
+        Element::Leaf(_) => None,
+        Element::Nest {
+            left: _,
+            inner,
+            right: _,
+        } => Some(inner),
+    }
+}
+
+/// What stands inside an element.
+#[tactic(auto, unfolding(crate::specs::Levels::inside_of, crate::specs::Levels::insides))]
+fn inside_of(alloc: Global, text: &[u8], element: &Element) -> Result<Inside, AllocError>
+    ensures { IfOk result (λ inside. inside ≡ inside_of text.now (tree_of element.now)) }
+{
+    match element {
+        Element::Leaf(_) => Ok(nothing_inside(alloc)),
+        Element::Nest {
+            left: _,
+            inner,
+            right: _,
+        } => {
+            let mut list = Vec::new(alloc);
+            'inner: for part in inner.iter() {
+                add(&mut list, inside_of(alloc, text, part)?)?;
+            }
+            let marks = marks_in(alloc, text, inner)?;
+            read_inside(alloc, &marks, &list)
+        }
+    }
+}
+
 /// What stands inside each element.
-pub fn insides(alloc: Global, text: &[u8], elements: &[Element]) -> Result<Vec<Inside>, AllocError>
+#[tactic(auto, unfolding(crate::specs::Levels::insides))]
+pub fn insides(
+    alloc: Global,
+    text: &[u8],
+    elements: &[Element],
+) -> Result<Vec<Inside>, AllocError>
     ensures { IfOk result (λ list. list.items ≡ insides text.now (forest_of elements.now)) }
 {
     let mut list = Vec::new(alloc);
-    for element in elements {
-        let inside = match element {
-            Element::Leaf(_) => nothing_inside(alloc),
-            Element::Nest {
-                left: _,
-                inner,
-                right: _,
-            } => {
-                let marks = marks_in(alloc, text, inner)?;
-                let inner = insides(alloc, text, inner)?;
-                read_inside(alloc, &marks, &inner)?
-            }
-        };
-        list.push(inside)?;
+    'elements: for element in elements {
+        add(&mut list, inside_of(alloc, text, element)?)?;
     }
     Ok(list)
 }

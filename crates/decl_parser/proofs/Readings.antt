@@ -1,0 +1,29 @@
+-- The one outcome of a text's tokens and of their brackets.
+use Rattle.std.proofs.Common.{◌≡◌, ◌≤◌, ◌∙◌, ap, sym, ℕ, List, length, Ok, Err, nat_lt, Bool, false, true, if◌then◌else◌}
+use Rattle.swift_lexer.specs.declared.token.Token.{Token}
+use Rattle.swift_lexer.specs.Tokens.{Outcome, IsLexed}
+use Rattle.swift_lexer.specs.Groups.{GroupOutcome, IsGrouped}
+use Rattle.swift_lexer.proofs.OneOutcome.{one_token_outcome}
+use Rattle.swift_lexer.proofs.SomeOutcome.{some_token_outcome}
+use Rattle.swift_lexer.proofs.OneGrouping.{one_group_outcome}
+use Rattle.decl_parser.specs.declared.fault.ParseFault.{ParseFault}
+use Rattle.decl_parser.specs.declared.parse.TheConstants.{LONGEST_SOURCE}
+use Rattle.decl_parser.specs.declared.fault.ParseKind.TheVariants.{SourceTooLarge}
+use Rattle.decl_parser.specs.Faults.{fault}
+use Rattle.decl_parser.specs.Grouping.{groups_of}
+use Rattle.decl_parser.specs.Outline.{tokens_of, lexed, grouped, read_tokens, read_groups}
+
+some_group_outcome : (text : List ℕ) (tokens : List Token) → IsGrouped text tokens (groups_of text tokens)
+some_group_outcome text tokens = ?
+
+the_tokens : (text : List ℕ) (outcome : Outcome) → IsLexed text outcome → outcome ≡ tokens_of text
+unfolding tokens_of
+the_tokens text outcome is = one_token_outcome text outcome (tokens_of text) is (some_token_outcome text).1
+
+pub tokens_read : (text : List ℕ) (outcome : Outcome) → nat_lt LONGEST_SOURCE (length text) ≡ false → IsLexed text outcome → lexed outcome ≡ read_tokens text
+unfolding read_tokens
+tokens_read text outcome short is = ap lexed (the_tokens text outcome is) ∙ sym (ap (λ (b : Bool). if b then Err (fault 0 SourceTooLarge) else lexed (tokens_of text)) short)
+
+pub groups_read : (text : List ℕ) (tokens : List Token) (outcome : GroupOutcome) → IsGrouped text tokens outcome → grouped outcome ≡ read_groups text tokens
+unfolding read_groups
+groups_read text tokens outcome is = ap grouped (one_group_outcome text tokens outcome (groups_of text tokens) is (some_group_outcome text tokens))
