@@ -5,7 +5,7 @@ ghost use Rattle.std.specs.Prelude.{find};
 ghost use Rattle.std.specs.List.{list_any};
 ghost use Rattle.std.specs.Option.{option_copied};
 ghost use Rattle.std.specs.Str.{bytes_eq};
-ghost use Rattle.element_marks.specs.Words.{keyword_in, keyword_of, is_builtin, is_reserved, wants_name, is_modifier, is_joining, is_accessor, is_observer, is_operator_name, is_class_member, is_class, is_underscore, is_where, is_condition, is_async, is_throws, is_accessor_modifier};
+ghost use Rattle.element_marks.specs.Words.{keyword_in, keyword_of, looks_like_keyword, is_builtin, is_reserved, wants_name, is_modifier, is_joining, is_accessor, is_observer, is_operator_name, is_class_member, is_class, is_underscore, is_where, is_condition, is_async, is_throws, is_accessor_modifier};
 
 use swift_lexer::BUILTIN_WORDS;
 
@@ -141,6 +141,13 @@ pub const WORDS: [(&[u8], Keyword); 72] = [
     (b"throws", Keyword::Throws),
 ];
 
+/// The words of the table are no longer, and their first bytes are from `UNDERSCORE` to `LAST_LETTER`.
+pub const LONGEST_KEYWORD: usize = 20;
+
+pub const UNDERSCORE: u8 = b'_';
+
+pub const LAST_LETTER: u8 = b'z';
+
 /// With what a name begins that only macros make.
 pub const RESERVED: &[u8] = b"$sX";
 
@@ -149,7 +156,18 @@ pub const RESERVED: &[u8] = b"$sX";
 pub fn keyword_of(word: &[u8]) -> Keyword
     ensures { result ≡ keyword_of word.now }
 {
+    if !looks_like_keyword(word) {
+        return Keyword::Plain;
+    }
     keyword_in(&WORDS, word)
+}
+
+/// Whether a word of the table can be as long as this one, and begin with the same byte.
+fn looks_like_keyword(word: &[u8]) -> bool
+    ensures { result ≡ looks_like_keyword word.now }
+{
+    let first = word.first().copied().unwrap_or(0);
+    UNDERSCORE <= first && first <= LAST_LETTER && word.len() <= LONGEST_KEYWORD
 }
 
 fn keyword_in(rows: &[(&[u8], Keyword)], word: &[u8]) -> Keyword
