@@ -26,12 +26,12 @@ attributes_skip (suc inside) (mark ∷ marks) insides =
 -- past an attribute, what is left stands behind it
 attributes_past : (mark : Mark) (marks : List Mark) (insides : List Inside) (more length : ℕ) → suc more ≡ length
     → prefixed (attr_of (mark ∷ marks) insides ∷ []) (attributes_from 0 (drop more marks) (drop (suc more) insides))
-        ≡ by_length length (Err (fault mark.start NotAnAttribute)) (λ more. and_then (attributes_from more marks (drop 1 insides)) (λ others. Ok (attr_of (mark ∷ marks) insides ∷ others)))
+    ≡ by_length length (Err (fault mark.start NotAnAttribute)) (λ more. and_then (attributes_from more marks (drop 1 insides)) (λ others. Ok (attr_of (mark ∷ marks) insides ∷ others)))
 attributes_past mark marks insides more length is =
     let skipped : attributes_from 0 (drop more marks) (drop (suc more) insides) ≡ attributes_from more marks (drop 1 insides) =
-        ap (attributes_from 0 (drop more marks)) (sym (drop_more more insides)) ∙ sym (attributes_skip more marks (drop 1 insides)) in
+    ap (attributes_from 0 (drop more marks)) (sym (drop_more more insides)) ∙ sym (attributes_skip more marks (drop 1 insides)) in
     subst (λ n. prefixed (attr_of (mark ∷ marks) insides ∷ []) (attributes_from 0 (drop more marks) (drop (suc more) insides)) ≡ by_length n (Err (fault mark.start NotAnAttribute)) (λ more. and_then (attributes_from more marks (drop 1 insides)) (λ others. Ok (attr_of (mark ∷ marks) insides ∷ others)))) is
-        (ap (prefixed (attr_of (mark ∷ marks) insides ∷ [])) skipped)
+    (ap (prefixed (attr_of (mark ∷ marks) insides ∷ [])) skipped)
 
 attributes_step : (marks : List Mark) (insides : List Inside) (length : ℕ) → length ≡ attribute_length marks → 0 < length
     → prefixed (attr_of marks insides ∷ []) (attributes_from 0 (drop length marks) (drop length insides)) ≡ attributes_from 0 marks insides
@@ -44,5 +44,5 @@ pub attributes_further : (at length : ℕ) (marks : List Mark) (insides : List I
     → prefixed (attrs ++ attr ∷ []) (attributes_from 0 (drop (at + length) marks) (drop (at + length) insides)) ≡ prefixed attrs (attributes_from 0 (drop at marks) (drop at insides))
 attributes_further at length marks insides attrs attr is some same =
     let behind : attributes_from 0 (drop (at + length) marks) (drop (at + length) insides) ≡ attributes_from 0 (drop length (drop at marks)) (drop length (drop at insides)) =
-        ap (λ m. attributes_from 0 m (drop (at + length) insides)) (sym (drop-drop length at marks)) ∙ ap (attributes_from 0 (drop length (drop at marks))) (sym (drop-drop length at insides)) in
+    ap (λ m. attributes_from 0 m (drop (at + length) insides)) (sym (drop-drop length at marks)) ∙ ap (attributes_from 0 (drop length (drop at marks))) (sym (drop-drop length at insides)) in
     prefixed_more attrs (attr ∷ []) _ ∙ ap (prefixed attrs) (ap (prefixed (attr ∷ [])) behind ∙ ap (λ a. prefixed (a ∷ []) (attributes_from 0 (drop length (drop at marks)) (drop length (drop at insides)))) same ∙ attributes_step (drop at marks) (drop at insides) length is some)

@@ -1,5 +1,6 @@
 -- The one outcome of a text's tokens and of their brackets.
-use Rattle.std.proofs.Common.{◌≡◌, ◌≤◌, ◌∙◌, ap, sym, ℕ, List, length, Ok, Err, nat_lt, Bool, false, true, if◌then◌else◌}
+use Rattle.std.proofs.Common.{◌≡◌, ◌<◌, ◌≤◌, ◌∙◌, ap, sym, ℕ, List, length, Ok, Err, nat_lt, Bool, false, true, if◌then◌else◌}
+use Rattle.std.proofs.lemmas.Bool.{le-ltb, lt-ltb}
 use Rattle.swift_lexer.specs.declared.token.Token.{Token}
 use Rattle.swift_lexer.specs.Tokens.{Outcome, IsLexed}
 use Rattle.swift_lexer.specs.Groups.{GroupOutcome, IsGrouped}
@@ -20,9 +21,13 @@ the_tokens : (text : List ℕ) (outcome : Outcome) → IsLexed text outcome → 
 unfolding tokens_of
 the_tokens text outcome is = one_token_outcome text outcome (tokens_of text) is (some_token_outcome text).1
 
-pub tokens_read : (text : List ℕ) (outcome : Outcome) → nat_lt LONGEST_SOURCE (length text) ≡ false → IsLexed text outcome → lexed outcome ≡ read_tokens text
+pub too_long : (text : List ℕ) → LONGEST_SOURCE < length text → Err (fault 0 SourceTooLarge) ≡ read_tokens text
 unfolding read_tokens
-tokens_read text outcome short is = ap lexed (the_tokens text outcome is) ∙ sym (ap (λ (b : Bool). if b then Err (fault 0 SourceTooLarge) else lexed (tokens_of text)) short)
+too_long text long = sym (ap (λ (b : Bool). if b then Err (fault 0 SourceTooLarge) else lexed (tokens_of text)) (lt-ltb LONGEST_SOURCE (length text) long))
+
+pub tokens_read : (text : List ℕ) (outcome : Outcome) → length text ≤ LONGEST_SOURCE → IsLexed text outcome → lexed outcome ≡ read_tokens text
+unfolding read_tokens
+tokens_read text outcome short is = ap lexed (the_tokens text outcome is) ∙ sym (ap (λ (b : Bool). if b then Err (fault 0 SourceTooLarge) else lexed (tokens_of text)) (le-ltb LONGEST_SOURCE (length text) short))
 
 pub groups_read : (text : List ℕ) (tokens : List Token) (outcome : GroupOutcome) → IsGrouped text tokens outcome → grouped outcome ≡ read_groups text tokens
 unfolding read_groups

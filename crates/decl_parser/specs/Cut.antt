@@ -122,7 +122,7 @@ members_at (Some place) members = first_members (drop place members)
 -- what stands inside the braces at the place is not looked at
 abbrev pub without : Option ℕ → List Inside → List Inside
 without None insides = insides
-without (Some place) insides = take place insides ++ (nothing_inside ∷ drop (suc place) insides)
+without (Some place) insides = take place insides ++ (nothing_inside ∷ drop 1 (drop place insides))
 
 abbrev pub block_of : Option BlockAt → List ItemSeen → BlockSeen
 block_of None members = no_block
@@ -157,26 +157,32 @@ assembled span next kind parts found members =
 unfoldable pub whole_item : List Mark → ℕ → List Mark → Kind → Parts → List Inside → List ItemSeen → ItemSeen
 whole_item list from next kind parts insides members =
     let own = drop from list in
-    assembled (span_from own) next kind parts (found_from parts.blocks (min (from + head_of own) (length list)) list from 0 (length list - from) insides) members
+    assembled (span_from own) next kind parts (found_from parts.blocks (from + head_of own) list from 0 (length list - from) insides) members
 
--- the same by its starter, or the first fault
+-- the starter of a declaration that may stand there
+abbrev pub beginning : Place → List Mark → Result Mark ParseFault
+beginning place own = and_then (starter_of place own) (λ starter. and_then (use_fits (head_of own) starter) (λ fits. Ok starter))
+
+-- the declaration ends as it should
+abbrev pub all_ends : Option ℕ → Mark → List Mark → ℕ → Result (Unit {0}) ParseFault
+all_ends body starter list from =
+    and_then (closed body (drop (head_of (drop from list)) (drop from list))) (λ closes. and_then (use_ends starter list from) (λ alone. ends (drop from list)))
+
+-- the declaration by its starter, or its first fault
 abbrev pub item_by : List Mark → ℕ → List Mark → List Inside → List MembersRead → Mark → Result ItemSeen ParseFault
 item_by list from next insides members starter =
     let own = drop from list in
     let head = head_of own in
     let place = members_place starter head own in
     let outside = without place insides in
-    and_then (use_fits head starter) (λ fits.
     and_then (parts (kind_of starter) starter (drop head own) (drop head outside)) (λ parts.
     and_then (members_at place members) (λ inner.
-    and_then (closed parts.body (drop head own)) (λ closes.
-    and_then (use_ends starter list from) (λ alone.
-    and_then (ends own) (λ ended. Ok (whole_item list from next (kind_of starter) parts outside inner)))))))
+    and_then (all_ends parts.body starter list from) (λ ended. Ok (whole_item list from next (kind_of starter) parts outside inner))))
 
 -- the declaration from the place `from` to the end of `list`, or its first fault; `next` stands behind it.
 -- `insides` and `members` are those of its elements
-abbrev pub item_at : Place → List Mark → ℕ → List Mark → List Inside → List MembersRead → Result ItemSeen ParseFault
-item_at place list from next insides members = and_then (starter_of place (drop from list)) (λ starter. item_by list from next insides members starter)
+unfoldable pub item_at : Place → List Mark → ℕ → List Mark → List Inside → List MembersRead → Result ItemSeen ParseFault
+item_at place list from next insides members = and_then (beginning place (drop from list)) (item_by list from next insides members)
 
 -- how many elements the declaration is that begins here
 abbrev pub count_of : List Mark → ℕ

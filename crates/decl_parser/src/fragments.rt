@@ -16,7 +16,7 @@ use crate::found::{Findings, found_in};
 use crate::inside::Inside;
 use crate::items::items;
 use crate::levels::{group_inside, insides};
-use crate::lists::behind;
+use crate::lists::{add, behind};
 use crate::parse::LONGEST_SOURCE;
 use crate::place::Place;
 use element_marks::{
@@ -121,7 +121,7 @@ fn attributes_in(
             return Err(fault(mark.start, ParseKind::NotAnAttribute));
         }
         let attr = attr_of(alloc, rest, behind(insides, at))?;
-        attrs.push(attr).map_err(AllocError::from)?;
+        add(&mut attrs, attr)?;
         at += length;
     }
     Ok(attrs)

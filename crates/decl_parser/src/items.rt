@@ -4,7 +4,7 @@ ghost use Rattle.std.specs.Prelude.{◌≡◌, ◌<◌, ◌≤◌, ◌+◌, ℕ,
 ghost use Rattle.swift_lexer.specs.Trees.{forest_of};
 ghost use Rattle.swift_tree.specs.Outlines.{item_of};
 ghost use Rattle.element_marks.specs.Answers.{Answers};
-ghost use Rattle.decl_parser.specs.Cut.{after, block_of, braces_seen, closed, count_of, ends, head_of, item_at, kind_of, members_at, members_place, nothing_more, start_of, starter_of, use_ends, use_fits, whole_item, word_kind};
+ghost use Rattle.decl_parser.specs.Cut.{after, all_ends, beginning, block_of, braces_seen, closed, count_of, ends, head_of, item_at, kind_of, members_at, members_place, nothing_more, start_of, starter_of, use_ends, use_fits, whole_item, word_kind};
 ghost use Rattle.decl_parser.specs.Levels.{forest_size, insides, items_of_list, members, members_by};
 
 use crate::attributes::span_from;
@@ -12,7 +12,7 @@ use crate::fault::{ParseFault, ParseKind, fault};
 use crate::found::{Findings, Search, found};
 use crate::inside::{BlockAt, Inside};
 use crate::levels::{group_inside, insides_without};
-use crate::lists::{behind, upto};
+use crate::lists::{add, behind, upto};
 use crate::parts::{Parts, has_members, parts_of};
 use crate::place::{Place, has_place};
 use element_marks::{
@@ -100,7 +100,7 @@ pub fn items(
                 elements: upto(behind(elements, at), count),
             };
             let item = item_at(alloc, own, behind(&marks, at + count), place)?;
-            items.push(item).map_err(AllocError::from)?;
+            add(&mut items, item)?;
             at += count;
         }
     }
@@ -109,6 +109,7 @@ pub fn items(
 
 /// The declaration that the elements are, or its first fault; `next` stands behind it.
 #[cycle(items)]
+#[tactic(auto, unfolding(crate::specs::Cut::item_at))]
 fn item_at(
     alloc: Global,
     own: Own,
@@ -119,27 +120,55 @@ fn item_at(
     ensures { Answers item_of result (λ outcome. outcome ≡ item_at place own.entry.list.now own.entry.from next.now (insides own.entry.text.now (forest_of own.entry.elements.now)) (members own.entry.text.now (forest_of own.entry.elements.now))) }
 {
     let marks = behind(own.list, own.from);
-    let starter = starter_of(place, marks)?;
     let head = head_of(marks);
-    let kind = kind_of(&starter);
+    let starter = beginning(place, marks)?;
     let braces = members_place(&starter, head, marks);
-    use_fits(head, &starter)?;
     let insides = insides_without(alloc, own.text, own.elements, braces)?;
-    let parts = parts_of(
-        alloc,
-        kind,
-        &starter,
-        behind(marks, head),
-        behind(&insides, head),
-    )?;
-    let members = match members_in(own.elements, braces) {
-        Some(inner) => items(alloc, own.text, inner, Place::Members)?,
-        None => Vec::new(alloc),
-    };
-    closed(parts.body, behind(marks, head))?;
-    use_ends(&starter, own.list, own.from)?;
-    ends(marks)?;
+    let kind = kind_of(&starter);
+    let parts = parts_of(alloc, kind, &starter, behind(marks, head), behind(&insides, head))?;
+    let members = members_at(alloc, own.text, own.elements, braces)?;
+    all_ends(parts.body, &starter, own.list, own.from)?;
     Ok(assembled(alloc, own, next, kind, parts, &insides, members)?)
+}
+
+/// The declarations in the braces at the place.
+#[cycle(items)]
+fn members_at(
+    alloc: Global,
+    text: &[u8],
+    elements: &[Element],
+    place: Option<usize>,
+) -> Result<Vec<Item>, Refusal<ParseFault>>
+    ensures { Answers (λ items. map item_of items.items) result (λ outcome. outcome ≡ members_at place (members text.now (forest_of elements.now))) }
+{
+    match members_in(elements, place) {
+        Some(inner) => items(alloc, text, inner, Place::Members),
+        None => Ok(Vec::new(alloc)),
+    }
+}
+
+/// The starter of a declaration that may stand there.
+fn beginning(place: Place, own: &[Mark]) -> Result<Mark, Refusal<ParseFault>>
+    ensures { Answers (λ starter. starter) result (λ outcome. outcome ≡ beginning place own.now) }
+{
+    let starter = starter_of(place, own)?;
+    use_fits(head_of(own), &starter)?;
+    Ok(starter)
+}
+
+/// The declaration ends as it should.
+fn all_ends(
+    body: Option<usize>,
+    starter: &Mark,
+    list: &[Mark],
+    from: usize,
+) -> Result<(), Refusal<ParseFault>>
+    ensures { Answers (λ fine. fine) result (λ outcome. outcome ≡ all_ends body starter.now list.now from) }
+{
+    let own = behind(list, from);
+    closed(body, behind(own, head_of(own)))?;
+    use_ends(starter, list, from)?;
+    ends(own)
 }
 
 /// How many elements the declaration is that begins here.
@@ -299,7 +328,7 @@ fn assembled(
         Search {
             list: own.list,
             from: own.from,
-            own: own.from.saturating_add(head_of(marks)).min(own.list.len()),
+            own: own.from + head_of(marks),
             blocks: parts.blocks.items(),
             insides,
         },

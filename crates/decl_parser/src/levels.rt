@@ -8,7 +8,7 @@ ghost use Rattle.decl_parser.specs.Levels.{inside_of, insides, read_inside, tree
 use crate::bindings::names_inside;
 use crate::found::{Findings, found_in};
 use crate::inside::{Inside, nothing_inside};
-use crate::lists::add;
+use crate::lists::{add, behind, upto};
 use element_marks::{Mark, lists_accessors, marks_in, observes};
 use std::alloc::{AllocError, Global};
 use swift_base::Listed;
@@ -52,11 +52,7 @@ fn inside_of(alloc: Global, text: &[u8], element: &Element) -> Result<Inside, Al
 
 /// What stands inside each element.
 #[tactic(auto, unfolding(crate::specs::Levels::insides))]
-pub fn insides(
-    alloc: Global,
-    text: &[u8],
-    elements: &[Element],
-) -> Result<Vec<Inside>, AllocError>
+pub fn insides(alloc: Global, text: &[u8], elements: &[Element]) -> Result<Vec<Inside>, AllocError>
     ensures { IfOk result (λ list. list.items ≡ insides text.now (forest_of elements.now)) }
 {
     let mut list = Vec::new(alloc);
@@ -78,14 +74,10 @@ pub fn insides_without(
     let Some(place) = place else {
         return insides(alloc, text, elements);
     };
-    let place = elements.len().min(place);
-    let behind = elements.len().min(place + 1);
-    let mut list = insides(alloc, text, &elements[..place])?;
-    list.push(nothing_inside(alloc))?;
-    let others = insides(alloc, text, &elements[behind..])?;
-    for inside in others {
-        list.push(inside)?;
-    }
+    let mut list = insides(alloc, text, upto(elements, place))?;
+    add(&mut list, nothing_inside(alloc))?;
+    let mut others = insides(alloc, text, behind(behind(elements, place), 1))?;
+    list.append(&mut others)?;
     Ok(list)
 }
 

@@ -69,6 +69,7 @@ fn parse(alloc: Global, text: &[u8], shape: Shape) -> Result<Outline, Refusal<Pa
 }
 
 /// The elements of a text, or the first fault of its length, its tokens, and then its brackets.
+#[tactic(auto, unfolding(crate::specs::Outline::elements_of))]
 pub fn elements_of(alloc: Global, text: &[u8]) -> Result<Vec<Element>, Refusal<ParseFault>>
     ensures { Answers (λ elements. forest_of elements.items) result (λ outcome. outcome ≡ elements_of text.now) }
 {

@@ -1,9 +1,15 @@
-use Rattle.std.proofs.Common.{◌∙◌, ap, sym, subst, Ok, Err}
+use Rattle.std.proofs.Common.{◌≡◌, ◌∙◌, ap, sym, subst, Ok, Err}
+use Rattle.swift_lexer.specs.Trees.{forest_of}
+use Rattle.element_marks.specs.Answers.{Refuses}
+use Rattle.decl_parser.specs.Outline.{read_groups}
 use Rattle.decl_parser.proofs.Readings.{groups_read}
 use Rattle.decl_parser.proofs.parse.groups_of.Goals as goal
 
 pub returns-in-Ok-clause-groups : goal.returns-in-Ok-clause-groups
-returns-in-Ok-clause-groups c = ?
+returns-in-Ok-clause-groups c = groups_read c.args.text.now c.args.tokens.now (Ok (forest_of c.in-Ok.elements.items)) c.in-Ok.ensures
 
 pub returns-in-Err-Fault-clause-groups : goal.returns-in-Err-Fault-clause-groups
-returns-in-Err-Fault-clause-groups c = ?
+returns-in-Err-Fault-clause-groups c =
+    subst (λ r. Refuses r (λ outcome. outcome ≡ read_groups c.args.text.now c.args.tokens.now)) (sym c.fault.ensures)
+    (ap (λ k. Err (record { at = c.in-Err-Fault.field-0-0.at; kind = k })) c.of_grouping.ensures
+        ∙ groups_read c.args.text.now c.args.tokens.now (Err c.in-Err-Fault.field-0-0) c.in-Err-Fault.ensures)

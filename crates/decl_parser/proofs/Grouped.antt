@@ -1,0 +1,82 @@
+-- What stands inside the elements of a list, each by its place.
+use Rattle.std.proofs.Common.{◌≡◌, refl, ℕ, zero, suc, ◌+◌, ◌≤◌, ◌<◌, ◌==◌, ◌∙◌, ap, sym, arith, append_assoc, length, List, [], ◌∷◌, ◌++◌, drop, take, get_or, Option, Some, None, Result, Ok, Err, Bool, false}
+use Rattle.swift_lexer.specs.declared.element.Element.{Element}
+use Rattle.swift_lexer.specs.Trees.{Tree, Forest, leaf, nest, none, cons, tree_of, forest_of}
+use Rattle.swift_tree.specs.Outlines.{ItemSeen}
+use Rattle.decl_parser.specs.declared.inside.Inside.{Inside}
+use Rattle.decl_parser.specs.Insides.{nothing_inside}
+use Rattle.decl_parser.specs.Cut.{MembersRead, first_members, without}
+use Rattle.decl_parser.specs.Levels.{inside_of, insides, members_of, members, members_by, items_of_list, tree_inside, tree_size, forest_size}
+use Rattle.decl_parser.specs.Fragments.{one_group}
+
+-- two elements or more are no one group
+pub one_group_more : (first : Element) (others : List Element) → false ≡ (length others == 0) → one_group (forest_of (first ∷ others)) ≡ None
+one_group_more first [] is = cc
+one_group_more first (other ∷ others) is = refl
+
+pub insides_take : (text : List ℕ) (n : ℕ) (elements : List Element) → insides text (forest_of (take n elements)) ≡ take n (insides text (forest_of elements))
+unfolding insides
+insides_take text zero [] = refl
+insides_take text zero (element ∷ elements) = refl
+insides_take text (suc n) [] = refl
+insides_take text (suc n) (element ∷ elements) = ap (λ l. inside_of text (tree_of element) ∷ l) (insides_take text n elements)
+
+pub insides_drop : (text : List ℕ) (n : ℕ) (elements : List Element) → insides text (forest_of (drop n elements)) ≡ drop n (insides text (forest_of elements))
+unfolding insides
+insides_drop text zero [] = refl
+insides_drop text zero (element ∷ elements) = refl
+insides_drop text (suc n) [] = refl
+insides_drop text (suc n) (element ∷ elements) = insides_drop text n elements
+
+pub members_take : (text : List ℕ) (n : ℕ) (elements : List Element) → members text (forest_of (take n elements)) ≡ take n (members text (forest_of elements))
+unfolding members
+members_take text zero [] = refl
+members_take text zero (element ∷ elements) = refl
+members_take text (suc n) [] = refl
+members_take text (suc n) (element ∷ elements) = ap (λ l. members_of text (tree_of element) ∷ l) (members_take text n elements)
+
+pub members_drop : (text : List ℕ) (n : ℕ) (elements : List Element) → members text (forest_of (drop n elements)) ≡ drop n (members text (forest_of elements))
+unfolding members
+members_drop text zero [] = refl
+members_drop text zero (element ∷ elements) = refl
+members_drop text (suc n) [] = refl
+members_drop text (suc n) (element ∷ elements) = members_drop text n elements
+
+-- where there is no element at the place, there are no members
+pub members_absent : (text : List ℕ) (n : ℕ) (elements : List Element) → length elements ≤ n → first_members (drop n (members text (forest_of elements))) ≡ Ok []
+unfolding members
+members_absent text zero [] absent = refl
+members_absent text (suc n) [] absent = refl
+members_absent text zero (element ∷ elements) absent = absurd (omega (arith, absent))
+members_absent text (suc n) (element ∷ elements) absent = members_absent text n elements (omega (arith, absent))
+
+-- else those of the element at the place
+pub members_present : (text : List ℕ) (n : ℕ) (elements : List Element) (default : Element) → n < length elements → first_members (drop n (members text (forest_of elements))) ≡ members_of text (tree_of (get_or elements n default))
+unfolding members
+members_present text zero [] default present = absurd (omega (arith, present))
+members_present text (suc n) [] default present = absurd (omega (arith, present))
+members_present text zero (element ∷ elements) default present = refl
+members_present text (suc n) (element ∷ elements) default present = members_present text n elements default (omega (arith, present))
+
+pub members_inside : (text : List ℕ) (tree : Tree) → members_by text (tree_inside tree) ≡ members_of text tree
+unfolding members_of items_of_list
+members_inside text (leaf token) = refl
+members_inside text (nest left inner right) = refl
+
+pub inside_smaller : (tree : Tree) (inner : Forest) → tree_inside tree ≡ Some inner → forest_size inner < tree_size tree
+inside_smaller (leaf token) inner is = cc
+inside_smaller (nest left forest right) inner is = let same : forest ≡ inner = cc in omega (arith, ap forest_size same)
+
+pub element_smaller : (n : ℕ) (elements : List Element) (default : Element) → n < length elements → tree_size (tree_of (get_or elements n default)) ≤ forest_size (forest_of elements)
+element_smaller zero [] default present = absurd (omega (arith, present))
+element_smaller (suc n) [] default present = absurd (omega (arith, present))
+element_smaller zero (element ∷ elements) default present = omega arith
+element_smaller (suc n) (element ∷ elements) default present = omega (arith, element_smaller n elements default (omega (arith, present)))
+
+-- all but one element are looked into
+pub without_is : (text : List ℕ) (place : ℕ) (elements : List Element) (front behind : List Inside) (here : Inside) → front ≡ insides text (forest_of (take place elements)) → here ≡ nothing_inside → behind ≡ insides text (forest_of (drop 1 (drop place elements))) → (front ++ here ∷ []) ++ behind ≡ without (Some place) (insides text (forest_of elements))
+without_is text place elements front behind here is_front is_here is_behind =
+    append_assoc front (here ∷ []) behind
+    ∙ ap (λ l. l ++ (here ∷ behind)) (is_front ∙ insides_take text place elements)
+    ∙ ap (λ h. take place (insides text (forest_of elements)) ++ (h ∷ behind)) is_here
+    ∙ ap (λ l. take place (insides text (forest_of elements)) ++ (nothing_inside ∷ l)) (is_behind ∙ insides_drop text 1 (drop place elements) ∙ ap (drop 1) (insides_drop text place elements))
