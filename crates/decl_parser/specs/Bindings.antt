@@ -43,11 +43,11 @@ has_observers marks insides =
 
 -- a binding with an initializer, which stands behind the `=` at `equals`
 abbrev pub with_initializer : Option Span → ℕ → List Mark → List Inside → Result Tail ParseFault
-with_initializer type_span equals [] insides = Err (fault equals BadBinding)
-with_initializer type_span equals (mark ∷ marks) insides =
-    if has_observers (mark ∷ marks) insides
-    then Ok (record { type_span = type_span; equals = Some equals; init = whole (take (length marks) (mark ∷ marks)); block = block_here true (drop (length marks) (mark ∷ marks)) (drop (length marks) insides) })
-    else Ok (record { type_span = type_span; equals = Some equals; init = whole (mark ∷ marks); block = None })
+with_initializer type_span equals marks insides =
+    if length marks == 0 then Err (fault equals BadBinding)
+    else (if has_observers marks insides
+    then Ok (record { type_span = type_span; equals = Some equals; init = whole (take (length marks - 1) marks); block = block_here true (drop (length marks - 1) marks) (drop (length marks - 1) insides) })
+    else Ok (record { type_span = type_span; equals = Some equals; init = whole marks; block = None }))
 
 -- a binding without `=`, behind its type: nothing, or the block, which is the last element
 abbrev pub blocked : Option Span → List Mark → List Inside → Result Tail ParseFault

@@ -35,6 +35,10 @@ pub record Step : Type 0 where
 abbrev pub local_attributes : List Mark → List Inside → List Attr
 local_attributes marks insides = by_length (attribute_length marks) [] (λ more. attr_of marks insides ∷ [])
 
+-- what stands inside the element
+abbrev pub within : List Inside → Found
+within insides = record { attrs = []; uses = (first_inside insides).uses; locals = (first_inside insides).locals }
+
 -- a use or an attribute of the declaration's own is one step; else an attribute here, and what stands inside the element.
 -- Attributes that begin before the place `own` are the declaration's own; `list` ends with the elements looked through
 abbrev pub found_step : List ℕ → ℕ → List Mark → ℕ → List Inside → Step

@@ -81,13 +81,21 @@ code may_list name marks insides = let place = before is_braces marks in with_bo
 abbrev pub of_function : Mark → List Mark → List Inside → Result Parts ParseFault
 of_function starter marks insides = and_then (function_name starter marks) (λ name. Ok (code false name marks insides))
 
+-- what was read before, and then the outcome of what is left
+abbrev pub prefixed : {A F : Type 0} → List A → Result (List A) F → Result (List A) F
+prefixed before outcome = and_then outcome (λ others. Ok (before ++ others))
+
+-- behind a comma a name is wanted
+abbrev pub comma_start : Mark → Option ℕ
+comma_start mark = if is_comma mark then Some mark.start else None
+
 -- the names of a case: behind `case` or a comma at `anchor`, where there is one
 abbrev pub case_names : Option ℕ → List Mark → Result (List Span) ParseFault
 case_names None [] = Ok []
 case_names (Some anchor) [] = Err (fault anchor MissingName)
-case_names None (mark ∷ marks) = case_names (if is_comma mark then Some mark.start else None) marks
+case_names None (mark ∷ marks) = case_names (comma_start mark) marks
 case_names (Some anchor) (mark ∷ marks) =
-    if is_name mark then and_then (case_names None marks) (λ names. Ok (name_of mark ∷ names)) else Err (fault anchor MissingName)
+    if is_name mark then prefixed (name_of mark ∷ []) (case_names None marks) else Err (fault anchor MissingName)
 
 -- the block of the last binding counts as the declaration's
 abbrev pub last_block : List Bound → Option BlockAt

@@ -1,12 +1,18 @@
 // The bindings of `var` and `let`.
 
-ghost use Rattle.std.specs.Prelude.{◌≡◌, IfOk, Some};
+ghost use Rattle.std.specs.Prelude.{◌≡◌, ◌++◌, ◌&&◌, not, IfOk, OnOk, Some, None};
+ghost use Rattle.swift_base.specs.declared.refusal.Refusal.TheVariants.{Fault};
 ghost use Rattle.element_marks.specs.Answers.{Answers};
-ghost use Rattle.decl_parser.specs.Bindings.{binding_of, bindings_from, blocked, has_observers, names_inside, pattern_names, tail_of, type_before, with_initializer, without_initializer};
+ghost use Rattle.element_marks.specs.Heads.{first_is};
+ghost use Rattle.element_marks.specs.Sorts.{is_colon, is_name};
+ghost use Rattle.element_marks.specs.Words.{is_underscore};
+ghost use Rattle.decl_parser.specs.declared.fault.ParseKind.TheVariants.{BadBinding};
+ghost use Rattle.decl_parser.specs.Bindings.{binding_of, bindings_from, blocked, has_observers, names_here, names_inside, pattern_names, tail_of, type_before, with_initializer, without_initializer};
 
+use crate::attributes::span_from;
 use crate::fault::{ParseFault, ParseKind, fault};
 use crate::inside::{BlockAt, Inside, block_here, first_names, first_observes};
-use crate::lists::{behind, upto};
+use crate::lists::{add, behind, upto};
 use element_marks::{
     Mark, before_braces, before_equals, binding_length, first_braces, first_colon, is_braces,
     is_colon, is_name, is_parentheses, is_pattern, is_underscore, name_of, whole,
@@ -31,7 +37,9 @@ pub struct Tail {
     pub block: Option<BlockAt>,
 }
 
-fn bad(at: u32) -> Refusal<ParseFault> {
+fn bad(at: u32) -> Refusal<ParseFault>
+    ensures { result ≡ Fault (record { at = at; kind = BadBinding }) }
+{
     fault(at, ParseKind::BadBinding)
 }
 
@@ -46,20 +54,21 @@ pub fn bindings(
 {
     let mut bounds = Vec::new(alloc);
     let mut before = anchor;
-    let mut at = 0;
+    let mut rest = marks;
+    let mut within = insides;
     'bindings: loop {
-        let rest = behind(marks, at);
         if rest.is_empty() {
             return Err(bad(before));
         }
         let count = 1 + binding_length(behind(rest, 1));
-        let bound = binding_of(alloc, upto(rest, count), behind(insides, at))?;
-        bounds.push(bound).map_err(AllocError::from)?;
-        match rest.get(count) {
-            Some(comma) => before = comma.start,
-            None => return Ok(bounds),
-        }
-        at += count + 1;
+        let bound = binding_of(alloc, upto(rest, count), within)?;
+        add(&mut bounds, bound)?;
+        let Some((comma, others)) = behind(rest, count).split_first() else {
+            return Ok(bounds);
+        };
+        before = comma.start;
+        rest = others;
+        within = behind(within, count + 1);
     }
 }
 
@@ -71,7 +80,7 @@ fn binding_of(
 ) -> Result<Bound, Refusal<ParseFault>>
     ensures { Answers (λ bound. bound) result (λ outcome. outcome ≡ binding_of marks.now insides.now) }
 {
-    let (Some(pattern), Some(last)) = (marks.first(), marks.last()) else {
+    let Some(pattern) = marks.first() else {
         return Err(bad(0));
     };
     if !is_pattern(pattern) {
@@ -84,7 +93,7 @@ fn binding_of(
         type_span: tail.type_span,
         equals: tail.equals,
         init: tail.init,
-        end: last.end,
+        end: span_from(marks).end,
     };
     Ok(Bound {
         binding,
@@ -115,19 +124,37 @@ pub fn names_inside(
     ensures { IfOk result (λ names. names.items ≡ names_inside marks.now insides.now) }
 {
     let mut names = Vec::new(alloc);
-    let mut at = 0;
-    'elements: while let Some(mark) = marks.get(at) {
-        if is_parentheses(mark) {
-            names.extend_from_slice(first_names(behind(insides, at)))?;
-        } else if is_pattern_name(mark, behind(marks, at + 1)) {
-            names.push(name_of(mark))?;
-        }
-        at += 1;
+    let mut elements = marks;
+    let mut within = insides;
+    'elements: while let Some((mark, others)) = elements.split_first() {
+        add_names(&mut names, mark, others, within)?;
+        elements = others;
+        within = behind(within, 1);
     }
     Ok(names)
 }
 
-fn is_pattern_name(mark: &Mark, marks: &[Mark]) -> bool {
+/// Adds the names that an element gives, behind which `marks` stand, and inside which the first of `insides` does.
+fn add_names(
+    names: &mut Vec<Span>,
+    mark: &Mark,
+    marks: &[Mark],
+    insides: &[Inside],
+) -> Result<(), AllocError>
+    ensures { OnOk result (names.new.items ≡ names.old.items ++ names_here mark.now marks.now insides.now) }
+{
+    if is_parentheses(mark) {
+        return names.extend_from_slice(first_names(insides));
+    }
+    if is_pattern_name(mark, marks) {
+        return add(names, name_of(mark));
+    }
+    Ok(())
+}
+
+fn is_pattern_name(mark: &Mark, marks: &[Mark]) -> bool
+    ensures { result ≡ (is_name mark.now && not (is_underscore mark.now.keyword) && not (first_is is_colon marks.now)) }
+{
     is_name(mark) && !is_underscore(mark.keyword) && !first_colon(marks)
 }
 
@@ -136,19 +163,12 @@ fn tail_of(marks: &[Mark], insides: &[Inside]) -> Result<Tail, Refusal<ParseFaul
     ensures { Answers (λ tail. tail) result (λ outcome. outcome ≡ tail_of marks.now insides.now) }
 {
     let place = before_equals(marks);
-    match marks.get(place) {
-        Some(equals) => {
-            let type_span = type_before(upto(marks, place))?;
-            let behind_equals = behind(insides, place + 1);
-            with_initializer(
-                type_span,
-                equals.start,
-                behind(marks, place + 1),
-                behind_equals,
-            )
-        }
-        None => without_initializer(marks, insides),
-    }
+    let Some((equals, init)) = behind(marks, place).split_first() else {
+        return without_initializer(marks, insides);
+    };
+    let type_span = type_before(upto(marks, place))?;
+    let behind_equals = behind(behind(insides, place), 1);
+    with_initializer(type_span, equals.start, init, behind_equals)
 }
 
 /// What stands before a binding's `=` is nothing, or a colon and a type.
@@ -187,7 +207,9 @@ fn initialized(
     equals: u32,
     init: Option<Span>,
     block: Option<BlockAt>,
-) -> Tail {
+) -> Tail
+    ensures { result ≡ record { type_span = type_span; equals = Some equals; init = init; block = block } }
+{
     Tail {
         type_span,
         equals: Some(equals),
@@ -215,7 +237,8 @@ fn without_initializer(marks: &[Mark], insides: &[Inside]) -> Result<Tail, Refus
             let typed = behind(marks, 1);
             let place = before_braces(typed);
             let type_span = whole(upto(typed, place));
-            blocked(type_span, behind(typed, place), behind(insides, place + 1))
+            let behind_colon = behind(insides, 1);
+            blocked(type_span, behind(typed, place), behind(behind_colon, place))
         }
         _ => blocked(None, marks, insides),
     }
@@ -231,14 +254,16 @@ fn blocked(
 {
     match marks.first() {
         None => Ok(uninitialized(type_span, None)),
-        Some(block) if is_braces(block) && marks.len() == 1 => {
+        Some(block) if is_braces(block) && behind(marks, 1).is_empty() => {
             Ok(uninitialized(type_span, block_here(true, marks, insides)))
         }
         Some(other) => Err(bad(other.start)),
     }
 }
 
-fn uninitialized(type_span: Option<Span>, block: Option<BlockAt>) -> Tail {
+fn uninitialized(type_span: Option<Span>, block: Option<BlockAt>) -> Tail
+    ensures { result ≡ record { type_span = type_span; equals = None; init = None; block = block } }
+{
     Tail {
         type_span,
         equals: None,

@@ -1,11 +1,11 @@
 // The macro uses and the attributes of elements, at every depth.
 
-ghost use Rattle.std.specs.Prelude.{◌≡◌, ◌-◌, ◌≤◌, IfOk, length};
-ghost use Rattle.decl_parser.specs.Found.{found_from, found_in, found_step, joined, seen};
+ghost use Rattle.std.specs.Prelude.{◌≡◌, ◌+◌, ◌++◌, ◌-◌, ◌<◌, ◌≤◌, IfOk, OnOk, suc, drop, length};
+ghost use Rattle.decl_parser.specs.Found.{found_from, found_in, found_step, joined, seen, within};
 
 use crate::attributes::{attr_of, copy_of, use_of};
 use crate::inside::{Inside, first_locals, first_uses};
-use crate::lists::{behind, upto};
+use crate::lists::{add, behind, upto};
 use element_marks::{Mark, attribute_length, use_length};
 use std::alloc::{AllocError, Global};
 use swift_tree::{Attr, MacroUse};
@@ -36,7 +36,7 @@ pub struct Search<'a> {
 /// What is found in the last elements of a list.
 pub fn found(alloc: Global, search: Search) -> Result<Findings, AllocError>
     requires { search.from ≤ length search.list.now }
-    ensures { IfOk result (λ findings. seen findings ≡ found_from search.blocks.now search.own search.list.now search.from 0 (length search.list.now - search.from) search.insides.now) }
+    ensures { IfOk result (λ findings. seen findings ≡ found_from search.entry.blocks.now search.entry.own search.entry.list.now search.entry.from 0 (length search.entry.list.now - search.entry.from) search.entry.insides.now) }
 {
     let mut findings = Findings {
         attrs: Vec::new(alloc),
@@ -72,21 +72,27 @@ fn step(
     search: Search,
     at: usize,
     findings: &mut Findings,
-) -> Result<usize, AllocError> {
+) -> Result<usize, AllocError>
+    requires reached { search.from ≤ at }
+    requires inside { at < length search.list.now }
+    ensures more { IfOk result (λ length. length ≡ suc (found_step search.entry.blocks.now search.entry.own search.entry.list.now at (drop (at - search.entry.from) search.entry.insides.now)).more) }
+    ensures found { OnOk result (seen findings.new ≡ joined (seen findings.old) (found_step search.entry.blocks.now search.entry.own search.entry.list.now at (drop (at - search.entry.from) search.entry.insides.now)).found) }
+    ensures bound { IfOk result (λ count. at + count ≤ length search.entry.list.now) }
+{
     let marks = behind(search.list, at);
     let insides = behind(search.insides, at - search.from);
     let used = use_length(search.blocks, upto(search.list, at), marks);
     if used > 0 {
-        findings.uses.push(use_of(upto(marks, used)))?;
+        add(&mut findings.uses, use_of(upto(marks, used)))?;
         return Ok(used);
     }
     let length = attribute_length(marks);
     if length > 0 && at < search.own {
-        findings.attrs.push(attr_of(alloc, marks, insides)?)?;
+        add(&mut findings.attrs, attr_of(alloc, marks, insides)?)?;
         return Ok(length);
     }
     if length > 0 {
-        findings.locals.push(attr_of(alloc, marks, insides)?)?;
+        add(&mut findings.locals, attr_of(alloc, marks, insides)?)?;
     }
     add_inside(alloc, insides, findings)?;
     Ok(1)
@@ -97,10 +103,18 @@ fn add_inside(
     alloc: Global,
     insides: &[Inside],
     findings: &mut Findings,
-) -> Result<(), AllocError> {
+) -> Result<(), AllocError>
+    ensures { OnOk result (seen findings.new ≡ joined (seen findings.old) (within insides.now)) }
+{
     findings.uses.extend_from_slice(first_uses(insides))?;
-    for attr in first_locals(insides) {
-        findings.locals.push(copy_of(alloc, attr)?)?;
+    add_copies(alloc, &mut findings.locals, first_locals(insides))
+}
+
+fn add_copies(alloc: Global, list: &mut Vec<Attr>, attrs: &[Attr]) -> Result<(), AllocError>
+    ensures { OnOk result (list.new.items ≡ list.old.items ++ attrs.now) }
+{
+    'attributes: for attr in attrs {
+        add(list, copy_of(alloc, attr)?)?;
     }
     Ok(())
 }

@@ -1,6 +1,8 @@
 // Parts of lists.
 
-ghost use Rattle.std.specs.Prelude.{◌≡◌, drop, take};
+ghost use Rattle.std.specs.Prelude.{◌≡◌, ◌++◌, ◌∷◌, [], OnOk, drop, take};
+
+use std::alloc::AllocError;
 
 /// What stands behind so many.
 pub fn behind<T>(list: &[T], count: usize) -> &[T]
@@ -16,4 +18,12 @@ pub fn upto<T>(list: &[T], count: usize) -> &[T]
 {
     let count = list.len().min(count);
     &list[..count]
+}
+
+/// One more at the end.
+pub fn add<T: Drop>(list: &mut Vec<T>, value: T) -> Result<(), AllocError>
+    ensures { OnOk result (list.new.items ≡ list.old.items ++ value ∷ []) }
+{
+    list.push(value)?;
+    Ok(())
 }

@@ -1,13 +1,14 @@
 // The parts of a declaration by its kind.
 
-ghost use Rattle.std.specs.Prelude.{◌≡◌, IfOk, Some};
-ghost use Rattle.element_marks.specs.Answers.{Answers};
-ghost use Rattle.decl_parser.specs.Parts.{all_blocks, all_names, case_names, code, first_name, function_name, has_members, last_block, named, names_only, of_case, of_extension, of_function, of_type, of_variable, operator_name, parts, with_members};
+ghost use Rattle.std.specs.Prelude.{◌≡◌, ◌++◌, ◌∷◌, [], List, IfOk, MatchResult, OnOk, Some, None, map};
+ghost use Rattle.element_marks.specs.declared.mark.Mark.{Mark};
+ghost use Rattle.element_marks.specs.Answers.{Answers, Refuses};
+ghost use Rattle.decl_parser.specs.Parts.{all_blocks, all_names, block_start, case_names, code, comma_start, first_name, function_name, has_members, last_block, named, names_only, of_case, of_extension, of_function, of_type, of_variable, operator_name, parts, prefixed, variable_parts, with_body, with_members};
 
 use crate::bindings::{Bound, bindings};
 use crate::fault::{ParseFault, ParseKind, fault};
 use crate::inside::{BlockAt, Inside, block_here};
-use crate::lists::{behind, upto};
+use crate::lists::{add, behind, upto};
 use element_marks::{
     Mark, Stop, before_braces, inherited, is_comma, is_name, is_operator, is_word, length_before,
     name_of, span_of, whole,
@@ -31,13 +32,17 @@ pub struct Parts {
 }
 
 /// A list of one.
-fn one<T: Drop>(alloc: Global, value: T) -> Result<Listed<T>, AllocError> {
+fn one<T: Drop>(alloc: Global, value: T) -> Result<Listed<T>, AllocError>
+    ensures { IfOk result (λ list. list ≡ value ∷ []) }
+{
     let mut list = Vec::new(alloc);
-    list.push(value)?;
+    add(&mut list, value)?;
     Ok(Listed::from_vec(list))
 }
 
-fn none<T>(alloc: Global) -> Listed<T> {
+fn none<T>(alloc: Global) -> Listed<T>
+    ensures { result ≡ [] }
+{
     Listed::from_vec(Vec::new(alloc))
 }
 
@@ -224,8 +229,23 @@ fn code(
     ensures { IfOk result (λ parts. parts ≡ code may_list name marks.now insides.now) }
 {
     let place = before_braces(marks);
+    let within = behind(insides, place);
+    with_body(alloc, may_list, name, place, behind(marks, place), within)
+}
+
+/// A function by its name, the place of its braces, and what stands from there on.
+fn with_body(
+    alloc: Global,
+    may_list: bool,
+    name: Span,
+    place: usize,
+    marks: &[Mark],
+    insides: &[Inside],
+) -> Result<Parts, AllocError>
+    ensures { IfOk result (λ parts. parts ≡ with_body may_list name place marks.now insides.now) }
+{
     let names = one(alloc, name)?;
-    let Some(braces) = marks.get(place) else {
+    let Some(braces) = marks.first() else {
         return Ok(names_only(alloc, names));
     };
     Ok(Parts {
@@ -233,7 +253,7 @@ fn code(
         bindings: none(alloc),
         inherits: none(alloc),
         extended: None,
-        block: block_here(may_list, behind(marks, place), behind(insides, place)),
+        block: block_here(may_list, marks, insides),
         body: Some(place),
         blocks: one(alloc, braces.start)?,
     })
@@ -248,6 +268,12 @@ fn of_variable(
     ensures { Answers (λ parts. parts) result (λ outcome. outcome ≡ of_variable starter.now marks.now insides.now) }
 {
     let bounds = bindings(alloc, starter.start, marks, insides)?;
+    Ok(variable_parts(alloc, bounds)?)
+}
+
+fn variable_parts(alloc: Global, bounds: Vec<Bound>) -> Result<Parts, AllocError>
+    ensures { IfOk result (λ parts. parts ≡ variable_parts bounds.items) }
+{
     let names = all_names(alloc, &bounds)?;
     let blocks = all_blocks(alloc, &bounds)?;
     let block = last_block(&bounds);
@@ -277,26 +303,40 @@ fn all_blocks(alloc: Global, bounds: &[Bound]) -> Result<Vec<u32>, AllocError>
 {
     let mut blocks = Vec::new(alloc);
     'bounds: for bound in bounds {
-        if let Some(block) = bound.block {
-            blocks.push(block.span.start)?;
-        }
+        add_block(&mut blocks, bound.block)?;
     }
     Ok(blocks)
+}
+
+fn add_block(blocks: &mut Vec<u32>, block: Option<BlockAt>) -> Result<(), AllocError>
+    ensures { OnOk result (blocks.new.items ≡ blocks.old.items ++ block_start block) }
+{
+    match block {
+        Some(block) => add(blocks, block.span.start),
+        None => Ok(()),
+    }
 }
 
 fn last_block(bounds: &[Bound]) -> Option<BlockAt>
     ensures { result ≡ last_block bounds.now }
 {
-    bounds.last()?.block
+    match bounds.last() {
+        Some(bound) => bound.block,
+        None => None,
+    }
 }
 
-fn only_bindings(alloc: Global, bounds: Vec<Bound>) -> Result<Vec<Binding>, AllocError> {
-    let mut bindings = Vec::new(alloc);
-    for bound in bounds {
-        let Bound { binding, block: _ } = bound;
-        bindings.push(binding)?;
-    }
-    Ok(bindings)
+fn only_bindings(alloc: Global, bounds: Vec<Bound>) -> Result<Vec<Binding>, AllocError>
+    ensures { IfOk result (λ bindings. bindings.items ≡ map (λ bound. bound.binding) bounds.items) }
+{
+    bounds.into_iter().map(|bound| only_binding(bound)).collect(alloc)
+}
+
+fn only_binding(bound: Bound) -> Binding
+    ensures { result ≡ bound.binding }
+{
+    let Bound { binding, block: _ } = bound;
+    binding
 }
 
 /// The names behind `case` and behind each comma.
@@ -326,18 +366,22 @@ fn case_step(
     names: &mut Vec<Span>,
     anchor: Option<u32>,
     mark: &Mark,
-) -> Result<Option<u32>, Refusal<ParseFault>> {
+) -> Result<Option<u32>, Refusal<ParseFault>>
+    ensures { (rest : List Mark) → MatchResult result (λ next. prefixed names.new.items (case_names next rest) ≡ prefixed names.old.items (case_names anchor (mark.now ∷ rest))) (λ refusal. Refuses refusal (λ outcome. outcome ≡ case_names anchor (mark.now ∷ rest))) }
+{
     match anchor {
         None => Ok(comma_start(mark)),
         Some(_) if is_name(mark) => {
-            names.push(name_of(mark)).map_err(AllocError::from)?;
+            add(names, name_of(mark))?;
             Ok(None)
         }
         Some(at) => Err(fault(at, ParseKind::MissingName)),
     }
 }
 
-fn comma_start(mark: &Mark) -> Option<u32> {
+fn comma_start(mark: &Mark) -> Option<u32>
+    ensures { result ≡ comma_start mark.now }
+{
     if is_comma(mark) {
         Some(mark.start)
     } else {
