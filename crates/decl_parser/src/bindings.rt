@@ -68,7 +68,7 @@ pub fn bindings(
         };
         before = comma.start;
         rest = others;
-        within = behind(within, count + 1);
+        within = behind(behind(within, count), 1);
     }
 }
 

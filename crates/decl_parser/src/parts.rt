@@ -351,11 +351,11 @@ fn case_names(alloc: Global, anchor: u32, marks: &[Mark]) -> Result<Vec<Span>, R
     ensures { Answers (λ names. names.items) result (λ outcome. outcome ≡ case_names (Some anchor) marks.now) }
 {
     let mut names = Vec::new(alloc);
-    let mut anchor = Some(anchor);
+    let mut wanted = Some(anchor);
     'elements: for mark in marks {
-        anchor = case_step(&mut names, anchor, mark)?;
+        wanted = case_step(&mut names, wanted, mark)?;
     }
-    match anchor {
+    match wanted {
         Some(at) => Err(fault(at, ParseKind::MissingName)),
         None => Ok(names),
     }

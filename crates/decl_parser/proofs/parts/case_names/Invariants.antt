@@ -1,0 +1,6 @@
+use Rattle.std.proofs.Common.{◌≡◌, drop, Some}
+use Rattle.decl_parser.specs.Parts.{case_names, prefixed}
+use Rattle.decl_parser.proofs.parts.case_names.Given as goal
+
+abbrev pub invariant-elements : goal.invariant-elements
+invariant-elements l = prefixed l.names.items (case_names l.wanted (drop l.mark-index l.marks)) ≡ case_names (Some l.anchor) l.marks
