@@ -1,5 +1,5 @@
 -- Bindings one behind the other.
-use Rattle.std.proofs.Common.{◌≡◌, refl, ℕ, zero, suc, ◌+◌, ◌<◌, ◌∙◌, ap, sym, subst, arith, append-nil, length, List, [], ◌∷◌, ◌++◌, take, drop, drop-drop, Some, None, Result, Ok, Err, false}
+use Rattle.std.proofs.Common.{◌≡◌, refl, ℕ, zero, suc, ◌+◌, ◌<◌, ◌∙◌, ap, sym, arith, append-nil, length, List, [], ◌∷◌, ◌++◌, take, drop, drop-drop, Some, None, Result, Ok, Err, false}
 use Rattle.element_marks.specs.declared.mark.Mark.{Mark}
 use Rattle.element_marks.specs.Answers.{and_then}
 use Rattle.element_marks.specs.Runs.{binding_length}
@@ -28,7 +28,7 @@ first_then : (pattern : Mark) (marks : List Mark) (within : List Inside) (n : �
 first_then pattern marks within n =
     let at : 1 + n ≡ suc n = omega arith in
     ap (λ r. and_then (binding_of (pattern ∷ take n marks) within) (λ first. prefixed (first ∷ []) r))
-        (skip n marks (drop 1 within) ∙ ap (bindings_from None 0 (drop n marks)) (drop-drop n 1 within ∙ ap (λ n. drop n within) at))
+    (skip n marks (drop 1 within) ∙ ap (bindings_from None 0 (drop n marks)) (drop-drop n 1 within ∙ ap (λ n. drop n within) at))
 
 by_first_is : (anchor count : ℕ) (rest : List Mark) (within : List Inside) → 0 < length rest → count ≡ 1 + binding_length false 0 0 (drop 1 rest) → bindings_from (Some anchor) 0 rest within ≡ by_first count rest within
 by_first_is anchor count [] within some is = absurd (omega (arith, some))

@@ -1,14 +1,12 @@
 -- What is found in elements one behind the other.
-use Rattle.std.proofs.Common.{◌≡◌, refl, ℕ, zero, suc, ◌+◌, ◌-◌, ◌<◌, ◌≤◌, ◌∙◌, ap, sym, subst, arith, append-nil, append_assoc, nat_lt, length, List, [], ◌∷◌, ◌++◌, take, drop, drop-drop, reverse, Bool, true, false, if◌then◌else◌}
-use Rattle.swift_tree.specs.declared.item.MacroUse.{MacroUse}
+use Rattle.std.proofs.Common.{◌≡◌, refl, ℕ, zero, suc, ◌+◌, ◌-◌, ◌<◌, ◌≤◌, ◌∙◌, ap, sym, arith, append-nil, append_assoc, length, List, [], ◌∷◌, ◌++◌, take, drop, drop-drop}
 use Rattle.swift_tree.specs.declared.item.Attr.{Attr}
 use Rattle.element_marks.specs.declared.mark.Mark.{Mark}
-use Rattle.element_marks.specs.Heads.{by_length, attribute_length}
-use Rattle.element_marks.specs.Uses.{use_length}
+use Rattle.element_marks.specs.Heads.{by_length}
 use Rattle.decl_parser.specs.declared.inside.Inside.{Inside}
 use Rattle.decl_parser.specs.Insides.{first_inside}
 use Rattle.decl_parser.specs.Attributes.{attr_of, use_of}
-use Rattle.decl_parser.specs.Found.{Found, Step, found_from, found_step, joined, local_attributes, nothing}
+use Rattle.decl_parser.specs.Found.{Found, Step, found_from, found_step, joined, local_attributes, nothing, within}
 
 pub joined_nothing : (found : Found) → joined found nothing ≡ found
 joined_nothing found = ap (λ l. record { attrs = l; uses = found.uses ++ []; locals = found.locals ++ [] }) (append-nil found.attrs)
@@ -43,11 +41,11 @@ step_then blocks own list at left more insides is =
     let rest : left - more ≡ suc left - suc more = omega arith in
     let behind : 1 + more ≡ suc more = omega arith in
     ap (joined (found_step blocks own list at insides).found)
-        (ap (λ n. found_from blocks own list (suc at) n left (drop 1 insides)) is
-        ∙ skip blocks own list (suc at) more left (drop 1 insides)
-        ∙ ap (λ n. found_from blocks own list n 0 (left - more) (drop more (drop 1 insides))) place
-        ∙ ap (λ n. found_from blocks own list (at + suc more) 0 n (drop more (drop 1 insides))) rest
-        ∙ ap (found_from blocks own list (at + suc more) 0 (suc left - suc more)) (drop-drop more 1 insides ∙ ap (λ n. drop n insides) behind))
+    (ap (λ n. found_from blocks own list (suc at) n left (drop 1 insides)) is
+    ∙ skip blocks own list (suc at) more left (drop 1 insides)
+    ∙ ap (λ n. found_from blocks own list n 0 (left - more) (drop more (drop 1 insides))) place
+    ∙ ap (λ n. found_from blocks own list (at + suc more) 0 n (drop more (drop 1 insides))) rest
+    ∙ ap (found_from blocks own list (at + suc more) 0 (suc left - suc more)) (drop-drop more 1 insides ∙ ap (λ n. drop n insides) behind))
 
 step_left : (blocks : List ℕ) (own : ℕ) (list : List Mark) (at left length : ℕ) (insides : List Inside) → 0 < left → length ≡ suc (found_step blocks own list at insides).more → found_from blocks own list at 0 left insides ≡ joined (found_step blocks own list at insides).found (found_from blocks own list (at + length) 0 (left - length) (drop length insides))
 step_left blocks own list at zero length insides some is = absurd (omega (arith, some))
@@ -107,3 +105,16 @@ pub other_step : (used attribute : ℕ) (marks : List Mark) (insides : List Insi
 other_step (suc used) attribute marks insides none nowhere = absurd (omega (arith, none))
 other_step zero (suc more) marks insides none nowhere = absurd (omega (arith, nowhere))
 other_step zero zero marks insides none nowhere = refl
+
+-- what was found before, with that of a step
+pub own_found : (before : Found) (used attribute : ℕ) (marks : List Mark) (insides : List Inside) → 0 ≡ used → 0 < attribute → record { attrs = before.attrs ++ attr_of marks insides ∷ []; uses = before.uses; locals = before.locals } ≡ joined before (by_lengths used attribute marks insides).found
+own_found before used attribute marks insides none some =
+    ap (λ l. record { attrs = before.attrs ++ attr_of marks insides ∷ []; uses = l; locals = before.locals }) (sym (append-nil before.uses))
+    ∙ ap (λ l. record { attrs = before.attrs ++ attr_of marks insides ∷ []; uses = before.uses ++ []; locals = l }) (sym (append-nil before.locals))
+    ∙ ap (λ step. joined before step.found) (sym (own_step used attribute marks insides none some))
+
+pub other_found : (before : Found) (locals : List Attr) (used attribute : ℕ) (marks : List Mark) (insides : List Inside) → 0 ≡ used → 0 ≡ attribute → locals ≡ before.locals ++ local_attributes marks insides → joined (record { attrs = before.attrs; uses = before.uses; locals = locals }) (within insides) ≡ joined before (by_lengths used attribute marks insides).found
+other_found before locals used attribute marks insides none nowhere is =
+    ap (λ l. record { attrs = before.attrs ++ []; uses = before.uses ++ (first_inside insides).uses; locals = l })
+    (ap (λ l. l ++ (first_inside insides).locals) is ∙ append_assoc before.locals (local_attributes marks insides) (first_inside insides).locals)
+    ∙ ap (λ step. joined before step.found) (sym (other_step used attribute marks insides none nowhere))

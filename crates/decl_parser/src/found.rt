@@ -1,7 +1,8 @@
 // The macro uses and the attributes of elements, at every depth.
 
-ghost use Rattle.std.specs.Prelude.{◌≡◌, ◌+◌, ◌++◌, ◌-◌, ◌<◌, ◌≤◌, IfOk, OnOk, suc, drop, length};
-ghost use Rattle.decl_parser.specs.Found.{found_from, found_in, found_step, joined, seen, within};
+ghost use Rattle.std.specs.Prelude.{◌≡◌, ◌+◌, ◌++◌, ◌-◌, ◌<◌, ◌≤◌, IfOk, OnOk, suc, drop, length, nat_lt, if◌then◌else◌};
+ghost use Rattle.element_marks.specs.Heads.{attribute_length};
+ghost use Rattle.decl_parser.specs.Found.{found_from, found_in, found_step, joined, local_attributes, seen, within};
 
 use crate::attributes::{attr_of, copy_of, use_of};
 use crate::inside::{Inside, first_locals, first_uses};
@@ -45,7 +46,8 @@ pub fn found(alloc: Global, search: Search) -> Result<Findings, AllocError>
     };
     let mut at = search.from;
     'elements: while at < search.list.len() {
-        at += step(alloc, search, at, &mut findings)?;
+        let count = step(alloc, search, at, &mut findings)?;
+        at += count;
     }
     Ok(findings)
 }
@@ -86,24 +88,41 @@ fn step(
         add(&mut findings.uses, use_of(upto(marks, used)))?;
         return Ok(used);
     }
-    let length = attribute_length(marks);
-    if length > 0 && at < search.own {
+    let own = own_length(search.own, at, marks);
+    if own > 0 {
         add(&mut findings.attrs, attr_of(alloc, marks, insides)?)?;
-        return Ok(length);
+        return Ok(own);
     }
-    if length > 0 {
-        add(&mut findings.locals, attr_of(alloc, marks, insides)?)?;
-    }
+    add_local(alloc, marks, insides, &mut findings.locals)?;
     add_inside(alloc, insides, findings)?;
     Ok(1)
 }
 
-/// Adds what stands inside the first element.
-fn add_inside(
+/// How many elements the attribute of the declaration's own is that begins at the place; 0 where none does.
+fn own_length(own: usize, at: usize, marks: &[Mark]) -> usize
+    ensures value { result ≡ (if nat_lt at own then attribute_length marks.now else 0) }
+    ensures bound { result ≤ length marks.now }
+{
+    if at < own { attribute_length(marks) } else { 0 }
+}
+
+/// Adds the attribute that begins the elements, where one does.
+fn add_local(
     alloc: Global,
+    marks: &[Mark],
     insides: &[Inside],
-    findings: &mut Findings,
+    locals: &mut Vec<Attr>,
 ) -> Result<(), AllocError>
+    ensures { OnOk result (locals.new.items ≡ locals.old.items ++ local_attributes marks.now insides.now) }
+{
+    if attribute_length(marks) == 0 {
+        return Ok(());
+    }
+    add(locals, attr_of(alloc, marks, insides)?)
+}
+
+/// Adds what stands inside the first element.
+fn add_inside(alloc: Global, insides: &[Inside], findings: &mut Findings) -> Result<(), AllocError>
     ensures { OnOk result (seen findings.new ≡ joined (seen findings.old) (within insides.now)) }
 {
     findings.uses.extend_from_slice(first_uses(insides))?;

@@ -329,7 +329,10 @@ fn last_block(bounds: &[Bound]) -> Option<BlockAt>
 fn only_bindings(alloc: Global, bounds: Vec<Bound>) -> Result<Vec<Binding>, AllocError>
     ensures { IfOk result (λ bindings. bindings.items ≡ map (λ bound. bound.binding) bounds.items) }
 {
-    bounds.into_iter().map(|bound| only_binding(bound)).collect(alloc)
+    bounds
+        .into_iter()
+        .map(|bound| only_binding(bound))
+        .collect(alloc)
 }
 
 fn only_binding(bound: Bound) -> Binding
@@ -352,8 +355,10 @@ fn case_names(alloc: Global, anchor: u32, marks: &[Mark]) -> Result<Vec<Span>, R
 {
     let mut names = Vec::new(alloc);
     let mut wanted = Some(anchor);
-    'elements: for mark in marks {
+    let mut rest = marks;
+    'elements: while let Some((mark, others)) = rest.split_first() {
         wanted = case_step(&mut names, wanted, mark)?;
+        rest = others;
     }
     match wanted {
         Some(at) => Err(fault(at, ParseKind::MissingName)),
