@@ -1,5 +1,5 @@
 -- The macro uses and the attributes of elements, at every depth: this project's own.
-use Rattle.std.specs.Prelude.{ℕ, zero, suc, ◌-◌, nat_lt, List, [], ◌∷◌, ◌++◌, length, reverse, take, drop, Bool, true, false, if◌then◌else◌}
+use Rattle.std.specs.Prelude.{ℕ, zero, suc, nat_lt, List, [], ◌∷◌, ◌++◌, length, reverse, take, drop, if◌then◌else◌}
 use Rattle.swift_tree.specs.declared.item.MacroUse.{MacroUse}
 use Rattle.swift_tree.specs.declared.item.Attr.{Attr}
 use Rattle.element_marks.specs.declared.mark.Mark.{Mark}

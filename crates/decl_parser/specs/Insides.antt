@@ -1,6 +1,5 @@
 -- What stands in the brackets of an element, as far as the elements around it have to know: this project's own words.
-use Rattle.std.specs.Prelude.{ℕ, List, [], ◌∷◌, drop, Option, Some, None, Bool, true, false, ◌&&◌, if◌then◌else◌}
-use Rattle.swift_tree.specs.declared.item.BlockShape.{BlockShape}
+use Rattle.std.specs.Prelude.{List, [], ◌∷◌, Option, Some, None, Bool, false, ◌&&◌, if◌then◌else◌}
 use Rattle.swift_tree.specs.declared.item.BlockShape.TheVariants as shape
 use Rattle.element_marks.specs.declared.mark.Mark.{Mark}
 use Rattle.element_marks.specs.Spans.{span_of}

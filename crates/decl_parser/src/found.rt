@@ -39,7 +39,21 @@ pub fn found(alloc: Global, search: Search) -> Result<Findings, AllocError>
     requires { search.from ≤ length search.list.now }
     ensures { IfOk result (λ findings. seen findings ≡ found_from search.entry.blocks.now search.entry.own search.entry.list.now search.entry.from 0 (length search.entry.list.now - search.entry.from) search.entry.insides.now) }
 {
+<<<<<<< HEAD
     Err(AllocError)
+=======
+    let mut findings = Findings {
+        attrs: Vec::new(alloc),
+        uses: Vec::new(alloc),
+        locals: Vec::new(alloc),
+    };
+    let mut at = search.from;
+    'elements: while at < search.list.len() {
+        let count = step(alloc, search, at, &mut findings)?;
+        at += count;
+    }
+    Ok(findings)
+>>>>>>> b226d9e1758cdd59be5b4b6a33aa39ec7abebc5b
 }
 
 /// What is found in a whole list.

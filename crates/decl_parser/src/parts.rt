@@ -71,7 +71,21 @@ pub fn parts_of(
 ) -> Result<Parts, Refusal<ParseFault>>
     ensures { Answers (λ parts. parts) result (λ outcome. outcome ≡ parts kind starter.now marks.now insides.now) }
 {
-    Err(Refusal::Memory)
+    match kind {
+        Kind::Import | Kind::Operator | Kind::Precedencegroup | Kind::UseItem => {
+            Ok(names_only(alloc, none(alloc)))
+        }
+        Kind::Typealias | Kind::Associatedtype | Kind::Macro => named(alloc, starter, marks),
+        Kind::Struct | Kind::Class | Kind::Enum | Kind::Protocol | Kind::Actor => {
+            of_type(alloc, starter, marks)
+        }
+        Kind::Extension => of_extension(alloc, starter, marks),
+        Kind::Func => of_function(alloc, starter, marks, insides),
+        Kind::Init | Kind::Deinit => Ok(code(alloc, false, span_of(starter), marks, insides)?),
+        Kind::Subscript => Ok(code(alloc, true, span_of(starter), marks, insides)?),
+        Kind::Var | Kind::Let => of_variable(alloc, starter, marks, insides),
+        Kind::Case => of_case(alloc, starter, marks),
+    }
 }
 
 /// Whether the block of a declaration of the kind holds declarations.
@@ -341,8 +355,10 @@ fn case_names(alloc: Global, anchor: u32, marks: &[Mark]) -> Result<Vec<Span>, R
 {
     let mut names = Vec::new(alloc);
     let mut wanted = Some(anchor);
-    'elements: for mark in marks {
+    let mut rest = marks;
+    'elements: while let Some((mark, others)) = rest.split_first() {
         wanted = case_step(&mut names, wanted, mark)?;
+        rest = others;
     }
     match wanted {
         Some(at) => Err(fault(at, ParseKind::MissingName)),
