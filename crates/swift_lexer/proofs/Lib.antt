@@ -9,6 +9,7 @@ pub mod Leaving
 pub mod OneGrouping
 pub mod OneOutcome
 pub mod Reaching
+pub mod SomeGrouping
 pub mod SomeOutcome
 pub mod Spelled
 pub mod Standing

@@ -1,13 +1,15 @@
--- The tokens of a text have at most one grouping: each outcome is the one that reading with a list of open levels gives.
-use Rattle.std.proofs.Common.{◌≡◌, ◌≢◌, ℕ, ◌+◌, ◌<◌, ◌≤◌, true, cond, leb, List, [], ◌∷◌, ◌++◌, length, Ok, Err, sym, refl, ap, arith, ◌∙◌, append_assoc, append-nil}
-use Rattle.std.proofs.lemmas.Bool.{le-leb, lt-leb}
+-- The tokens of a text have at most one grouping: each outcome is the one that the function gives.
+use Rattle.std.proofs.Common.{◌≡◌, ◌≢◌, ℕ, ◌+◌, ◌<◌, ◌≤◌, true, false, List, [], ◌∷◌, ◌++◌, length, Ok, Err, sym, refl, ap, arith, ◌∙◌, append_assoc, append-nil}
+use Rattle.std.specs.Prelude.{if◌then◌else◌}
+use Rattle.std.proofs.lemmas.Bool.{lt-ltb, le-ltb}
 use Rattle.swift_lexer.specs.declared.token.Class.{Class}
 use Rattle.swift_lexer.specs.declared.token.Class.TheVariants.{LeftBracket, RightBracket}
 use Rattle.swift_lexer.specs.declared.token.Token.{Token}
 use Rattle.swift_lexer.specs.declared.element.TheConstants.{DEEPEST}
-use Rattle.swift_lexer.specs.declared.element.GroupKind.TheVariants.{Unopened, Unclosed, Mismatched, TooDeep}
+use Rattle.swift_lexer.specs.declared.element.GroupKind.TheVariants.{Mismatched, TooDeep}
 use Rattle.swift_lexer.specs.Trees.{Tree, leaf, nest, Forest, none, cons, tree_tokens, forest_tokens, tree_depth, forest_depth, closes, IsMatched, AreMatched}
 use Rattle.swift_lexer.specs.Groups.{Level, open_tokens, AreOpen, Reaches, GroupOutcome, IsGrouped, grouped, unopened, mismatched, too_deep, unclosed}
+use Rattle.swift_lexer.specs.Bracketing.{Standing, Taken, with_last, taken, goes_on, groups_from}
 use Rattle.swift_lexer.specs.Laws.{OneGroupOutcome}
 
 -- two forests in a row
@@ -19,48 +21,50 @@ both-none : (forest : Forest) → both forest none ≡ forest
 both-none none = refl
 both-none (cons tree forest) = ap (cons tree) (both-none forest)
 
-both-cons : (forest : Forest) (tree : Tree) (second : Forest) → both (both forest (cons tree none)) second ≡ both forest (cons tree second)
-both-cons none tree second = refl
-both-cons (cons first forest) tree second = ap (cons first) (both-cons forest tree second)
+both-last : (forest : Forest) (tree : Tree) (second : Forest) → both (with_last forest tree) second ≡ both forest (cons tree second)
+both-last none tree second = refl
+both-last (cons first forest) tree second = ap (cons first) (both-last forest tree second)
 
--- what a token does to the open levels, the innermost first, and to what stands on the innermost
-abbrev step : Class → List ℕ → List Level → Forest → Token → (List Level → Forest → GroupOutcome) → GroupOutcome
-step LeftBracket text levels here token goes_on = cond (leb DEEPEST (length levels)) (Err (record { at = token.start; kind = TooDeep })) (goes_on (record { before = here; left = token } ∷ levels) none)
-step RightBracket text [] here token goes_on = Err (record { at = token.start; kind = Unopened })
-step RightBracket text (level ∷ levels) here token goes_on = cond (closes text level.left token) (goes_on levels (both level.before (cons (nest level.left here token) none))) (Err (record { at = token.start; kind = Mismatched }))
-step _ text levels here token goes_on = goes_on levels (both here (cons (leaf token) none))
-
-abbrev ended : List Level → Forest → GroupOutcome
-ended [] here = Ok here
-ended (level ∷ levels) here = Err (record { at = level.left.start; kind = Unclosed })
-
+-- what the tokens give where these levels are open, the innermost first, and these groups stand on the innermost
 abbrev run : List ℕ → List Token → List Level → Forest → GroupOutcome
-run text [] levels here = ended levels here
-run text (token ∷ tokens) levels here = step token.class text levels here token (run text tokens)
+run text tokens levels here = groups_from text tokens (record { levels = levels; here = here })
 
-step-leaf : (class : Class) (text : List ℕ) (levels : List Level) (here : Forest) (token : Token) (goes_on : List Level → Forest → GroupOutcome) → class ≢ LeftBracket → class ≢ RightBracket → step class text levels here token goes_on ≡ goes_on levels (both here (cons (leaf token) none))
-step-leaf LeftBracket text levels here token goes_on not_left not_right = absurd (not_left refl)
-step-leaf RightBracket text levels here token goes_on not_left not_right = absurd (not_right refl)
-step-leaf _ text levels here token goes_on not_left not_right = refl
+abbrev further : List ℕ → List Token → Taken → GroupOutcome
+further text rest step = goes_on step (groups_from text rest)
 
-step-left : (class : Class) (text : List ℕ) (levels : List Level) (here : Forest) (token : Token) (goes_on : List Level → Forest → GroupOutcome) → class ≡ LeftBracket → length levels < DEEPEST → step class text levels here token goes_on ≡ goes_on (record { before = here; left = token } ∷ levels) none
-step-left class text levels here token goes_on is_left low =
-    ap (λ c. step c text levels here token goes_on) is_left ∙ ap (λ b. cond b (Err (record { at = token.start; kind = TooDeep })) (goes_on (record { before = here; left = token } ∷ levels) none)) (lt-leb DEEPEST (length levels) low)
+taken-leaf : (class : Class) (text : List ℕ) (standing : Standing) (token : Token) → class ≢ LeftBracket → class ≢ RightBracket → taken text standing token class ≡ Ok (record { levels = standing.levels; here = with_last standing.here (leaf token) })
+taken-leaf LeftBracket text standing token not_left not_right = absurd (not_left refl)
+taken-leaf RightBracket text standing token not_left not_right = absurd (not_right refl)
+taken-leaf _ text standing token not_left not_right = refl
 
-step-right : (class : Class) (text : List ℕ) (level : Level) (levels : List Level) (here : Forest) (token : Token) (goes_on : List Level → Forest → GroupOutcome) → class ≡ RightBracket → closes text level.left token ≡ true → step class text (level ∷ levels) here token goes_on ≡ goes_on levels (both level.before (cons (nest level.left here token) none))
-step-right class text level levels here token goes_on is_right of_one_kind =
-    ap (λ c. step c text (level ∷ levels) here token goes_on) is_right ∙ ap (λ b. cond b (goes_on levels (both level.before (cons (nest level.left here token) none))) (Err (record { at = token.start; kind = Mismatched }))) of_one_kind
+taken-left : (class : Class) (text : List ℕ) (standing : Standing) (token : Token) → class ≡ LeftBracket → length standing.levels < DEEPEST → taken text standing token class ≡ Ok (record { levels = record { before = standing.here; left = token } ∷ standing.levels; here = none })
+taken-left class text standing token is_left low =
+    ap (taken text standing token) is_left ∙ ap (λ b. if b then Ok (record { levels = record { before = standing.here; left = token } ∷ standing.levels; here = none }) else Err (record { at = token.start; kind = TooDeep })) (lt-ltb (length standing.levels) DEEPEST low)
+
+taken-deep : (class : Class) (text : List ℕ) (standing : Standing) (token : Token) → class ≡ LeftBracket → DEEPEST ≤ length standing.levels → taken text standing token class ≡ Err (record { at = token.start; kind = TooDeep })
+taken-deep class text standing token is_left deep =
+    ap (taken text standing token) is_left ∙ ap (λ b. if b then Ok (record { levels = record { before = standing.here; left = token } ∷ standing.levels; here = none }) else Err (record { at = token.start; kind = TooDeep })) (le-ltb (length standing.levels) DEEPEST deep)
+
+module _ (class : Class) (text : List ℕ) (level : Level) (levels : List Level) (here : Forest) (token : Token) (is_right : class ≡ RightBracket) where
+  taken-right : closes text level.left token ≡ true → taken text (record { levels = level ∷ levels; here = here }) token class ≡ Ok (record { levels = levels; here = with_last level.before (nest level.left here token) })
+  taken-right same =
+      ap (taken text (record { levels = level ∷ levels; here = here }) token) is_right ∙ ap (λ b. if b then Ok (record { levels = levels; here = with_last level.before (nest level.left here token) }) else Err (record { at = token.start; kind = Mismatched })) same
+
+  taken-mismatched : closes text level.left token ≡ false → taken text (record { levels = level ∷ levels; here = here }) token class ≡ Err (record { at = token.start; kind = Mismatched })
+  taken-mismatched differs =
+      ap (taken text (record { levels = level ∷ levels; here = here }) token) is_right ∙ ap (λ b. if b then Ok (record { levels = levels; here = with_last level.before (nest level.left here token) }) else Err (record { at = token.start; kind = Mismatched })) differs
 
 -- matched groups are read as they are
 mutual
-  run-tree : (text : List ℕ) (tree : Tree) (rest : List Token) (levels : List Level) (here : Forest) → IsMatched text tree → length levels + tree_depth tree ≤ DEEPEST → run text (tree_tokens tree ++ rest) levels here ≡ run text rest levels (both here (cons tree none))
-  run-tree text (leaf token) rest levels here matched low = step-leaf token.class text levels here token (run text rest) matched.0 matched.1
+  run-tree : (text : List ℕ) (tree : Tree) (rest : List Token) (levels : List Level) (here : Forest) → IsMatched text tree → length levels + tree_depth tree ≤ DEEPEST → run text (tree_tokens tree ++ rest) levels here ≡ run text rest levels (with_last here tree)
+  run-tree text (leaf token) rest levels here matched low =
+      ap (further text rest) (taken-leaf token.class text (record { levels = levels; here = here }) token matched.0 matched.1)
   run-tree text (nest left inner right) rest levels here matched low =
       let level : Level = record { before = here; left = left } in
-      let opened = step-left left.class text levels here left (run text ((forest_tokens inner ++ right ∷ []) ++ rest)) matched.0 (omega arith) in
+      let opened = ap (further text ((forest_tokens inner ++ right ∷ []) ++ rest)) (taken-left left.class text (record { levels = levels; here = here }) left matched.0 (omega arith)) in
       let regrouped = ap (λ l. run text l (level ∷ levels) none) (append_assoc (forest_tokens inner) (right ∷ []) rest) in
       let inside = run-forest text inner (right ∷ rest) (level ∷ levels) none matched.3 (omega arith) in
-      let closed = step-right right.class text level levels inner right (run text rest) matched.1 matched.2 in
+      let closed = ap (further text rest) (taken-right right.class text level levels inner right matched.1 matched.2) in
       opened ∙ regrouped ∙ inside ∙ closed
 
   run-forest : (text : List ℕ) (forest : Forest) (rest : List Token) (levels : List Level) (here : Forest) → AreMatched text forest → length levels + forest_depth forest ≤ DEEPEST → run text (forest_tokens forest ++ rest) levels here ≡ run text rest levels (both here forest)
@@ -68,8 +72,8 @@ mutual
   run-forest text (cons tree forest) rest levels here matched low =
       let regrouped = ap (λ l. run text l levels here) (append_assoc (tree_tokens tree) (forest_tokens forest) rest) in
       let first = run-tree text tree (forest_tokens forest ++ rest) levels here matched.0 (omega arith) in
-      let others = run-forest text forest rest levels (both here (cons tree none)) matched.1 (omega arith) in
-      regrouped ∙ first ∙ others ∙ ap (run text rest levels) (both-cons here tree forest)
+      let others = run-forest text forest rest levels (with_last here tree) matched.1 (omega arith) in
+      regrouped ∙ first ∙ others ∙ ap (run text rest levels) (both-last here tree forest)
 
 -- the levels, the innermost first, before further ones
 abbrev turned : List Level → List Level → List Level
@@ -89,7 +93,7 @@ run-open text [] rest around opened low = refl
 run-open text (level ∷ levels) rest around opened low =
     let regrouped = ap (λ l. run text l around none) (append_assoc (forest_tokens level.before) (level.left ∷ open_tokens levels) rest) in
     let before = run-forest text level.before (level.left ∷ (open_tokens levels ++ rest)) around none opened.0 opened.1 in
-    let left = step-left level.left.class text around level.before level.left (run text (open_tokens levels ++ rest)) opened.2 (omega arith) in
+    let left = ap (further text (open_tokens levels ++ rest)) (taken-left level.left.class text (record { levels = around; here = level.before }) level.left opened.2 (omega arith)) in
     regrouped ∙ before ∙ left ∙ run-open text levels rest (level ∷ around) opened.3 (omega arith)
 
 run-reaches : (text : List ℕ) (tokens : List Token) (levels : List Level) (here : Forest) (rest : List Token) → Reaches text tokens levels here rest → run text tokens [] none ≡ run text rest (turned levels []) here
@@ -102,11 +106,11 @@ run-grouped : (text : List ℕ) (tokens : List Token) (outcome : GroupOutcome) �
 run-grouped text tokens outcome (grouped forest same matched low) =
     ap (λ l. run text l [] none) (sym same ∙ sym (append-nil (forest_tokens forest))) ∙ run-forest text forest [] [] none matched (omega (arith, low))
 run-grouped text tokens outcome (unopened here right rest reached is_right) =
-    run-reaches text tokens [] here (right ∷ rest) reached ∙ ap (λ c. step c text [] here right (run text rest)) is_right
+    run-reaches text tokens [] here (right ∷ rest) reached ∙ ap (λ c. further text rest (taken text (record { levels = []; here = here }) right c)) is_right
 run-grouped text tokens outcome (mismatched levels level here right rest reached is_right differs) =
-    run-reaches text tokens (levels ++ level ∷ []) here (right ∷ rest) reached ∙ ap (λ l. run text (right ∷ rest) l here) (turned-push levels [] level) ∙ ap (λ c. step c text (level ∷ turned levels []) here right (run text rest)) is_right ∙ ap (λ b. cond b (run text rest (turned levels []) (both level.before (cons (nest level.left here right) none))) (Err (record { at = right.start; kind = Mismatched }))) differs
+    run-reaches text tokens (levels ++ level ∷ []) here (right ∷ rest) reached ∙ ap (λ l. run text (right ∷ rest) l here) (turned-push levels [] level) ∙ ap (further text rest) (taken-mismatched right.class text level (turned levels []) here right is_right differs)
 run-grouped text tokens outcome (too_deep levels here left rest reached is_left deep) =
-    run-reaches text tokens levels here (left ∷ rest) reached ∙ ap (λ c. step c text (turned levels []) here left (run text rest)) is_left ∙ ap (λ b. cond b (Err (record { at = left.start; kind = TooDeep })) (run text rest (record { before = here; left = left } ∷ turned levels []) none)) (le-leb DEEPEST (length (turned levels [])) (omega (arith, deep, length-turned levels [])))
+    run-reaches text tokens levels here (left ∷ rest) reached ∙ ap (further text rest) (taken-deep left.class text (record { levels = turned levels []; here = here }) left is_left (omega (arith, deep, length-turned levels [])))
 run-grouped text tokens outcome (unclosed levels level here reached) =
     run-reaches text tokens (levels ++ level ∷ []) here [] reached ∙ ap (λ l. run text [] l here) (turned-push levels [] level)
 

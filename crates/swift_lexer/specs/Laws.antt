@@ -6,6 +6,7 @@ use Rattle.swift_lexer.specs.Tokens.{Outcome, IsLexed}
 use Rattle.swift_lexer.specs.Tiles.{TokensTile}
 use Rattle.swift_lexer.specs.Trees.{Forest, forest_tokens, forest_depth, AreMatched}
 use Rattle.swift_lexer.specs.Groups.{GroupOutcome, IsGrouped}
+use Rattle.swift_lexer.specs.Bracketing.{groups_of}
 use Rattle.swift_lexer.specs.declared.element.TheConstants.{DEEPEST}
 use Rattle.swift_lexer.specs.declared.token.Class.{Class}
 use Rattle.swift_lexer.specs.declared.token.Class.TheVariants.{LeftBracket, RightBracket}
@@ -32,6 +33,10 @@ TokenBytes = (class : Class) (bytes : List ℕ) → IsToken class bytes → (0 <
 -- the tokens of a text have at most one grouping
 abbrev pub OneGroupOutcome : Type 0
 OneGroupOutcome = (text : List ℕ) (tokens : List Token) (one other : GroupOutcome) → IsGrouped text tokens one → IsGrouped text tokens other → one ≡ other
+
+-- the tokens of a text have a grouping, which the function gives
+abbrev pub SomeGroupOutcome : Type 0
+SomeGroupOutcome = (text : List ℕ) (tokens : List Token) → IsGrouped text tokens (groups_of text tokens)
 
 -- the tokens of the groups are the tokens that were grouped; brackets match and are nested as deep as they may
 abbrev pub GroupsHoldTheTokens : Type 0

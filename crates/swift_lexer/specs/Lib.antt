@@ -1,4 +1,5 @@
 pub mod Answers
+pub mod Bracketing
 pub mod Bytes
 pub mod Characters
 pub mod Chars

@@ -1,7 +1,7 @@
 // Laws of the definitions: a call of each brings it in as a fact.
 
 ghost use Rattle.swift_lexer.specs.Characters.{AcceptedTextsAreUtf8, TokensAreOfCharacters};
-ghost use Rattle.swift_lexer.specs.Laws.{GroupsHoldTheTokens, OneGroupOutcome, OneTokenOutcome, SomeTokenOutcome, TokenBytes, TokensOfATextTile};
+ghost use Rattle.swift_lexer.specs.Laws.{GroupsHoldTheTokens, OneGroupOutcome, OneTokenOutcome, SomeGroupOutcome, SomeTokenOutcome, TokenBytes, TokensOfATextTile};
 
 /// A text is either accepted with one list of tokens or refused with one fault.
 pub fn one_token_outcome()
@@ -36,6 +36,11 @@ pub fn token_bytes()
 /// The tokens of a text are grouped in one way or refused with one fault.
 pub fn one_group_outcome()
     ensures { OneGroupOutcome }
+{}
+
+/// The tokens of a text are grouped or refused, as the function says.
+pub fn some_group_outcome()
+    ensures { SomeGroupOutcome }
 {}
 
 /// The tokens of the groups are the tokens that were grouped.

@@ -1,0 +1,2 @@
+﻿// behind a mark
+let a = 1
