@@ -11,11 +11,9 @@ use Rattle.decl_parser.specs.declared.fault.ParseFault.{ParseFault}
 use Rattle.decl_parser.specs.declared.parse.TheConstants.{LONGEST_SOURCE}
 use Rattle.decl_parser.specs.declared.fault.ParseKind.TheVariants.{SourceTooLarge}
 use Rattle.decl_parser.specs.Faults.{fault}
-use Rattle.decl_parser.specs.Grouping.{groups_of}
+use Rattle.swift_lexer.specs.Bracketing.{groups_of}
+use Rattle.swift_lexer.proofs.SomeGrouping.{some_group_outcome}
 use Rattle.decl_parser.specs.Outline.{tokens_of, lexed, grouped, read_tokens, read_groups}
-
-some_group_outcome : (text : List ℕ) (tokens : List Token) → IsGrouped text tokens (groups_of text tokens)
-some_group_outcome text tokens = ?
 
 the_tokens : (text : List ℕ) (outcome : Outcome) → IsLexed text outcome → outcome ≡ tokens_of text
 unfolding tokens_of

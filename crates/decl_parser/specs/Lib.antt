@@ -4,7 +4,6 @@ pub mod Cut
 pub mod Faults
 pub mod Found
 pub mod Fragments
-pub mod Grouping
 pub mod Insides
 pub mod Levels
 pub mod Outline

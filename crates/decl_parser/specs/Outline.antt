@@ -18,7 +18,7 @@ use Rattle.decl_parser.specs.Faults.{fault, lex_kind, group_kind}
 use Rattle.element_marks.specs.Answers.{and_then}
 use Rattle.element_marks.specs.Words.{is_reserved}
 use Rattle.decl_parser.specs.Fragments.{by_shape}
-use Rattle.decl_parser.specs.Grouping.{groups_of}
+use Rattle.swift_lexer.specs.Bracketing.{groups_of}
 
 abbrev pub OutlineOutcome : Type 0
 OutlineOutcome = Result OutlineSeen ParseFault

@@ -85,12 +85,26 @@ fn args_uses<'a>(marks: &[Mark], insides: &'a [Inside]) -> &'a [MacroUse]
 pub fn attr_of(alloc: Global, marks: &[Mark], insides: &[Inside]) -> Result<Attr, AllocError>
     ensures { IfOk result (λ attr. attr ≡ attr_of marks.now insides.now) }
 {
-    Err(AllocError)
+    let place = args_place(marks);
+    let uses = args_uses(behind(marks, place), behind(insides, place));
+    Ok(Attr {
+        span: span_from(upto(marks, attribute_length(marks))),
+        name: attribute_name(behind(marks, 1)),
+        dotted: dots_length(behind(marks, 2)) > 0,
+        args: args_span(behind(marks, place)),
+        uses: Listed::from_vec(Vec::from_slice(alloc, uses)?),
+    })
 }
 
 /// The same attribute again.
 pub fn copy_of(alloc: Global, attr: &Attr) -> Result<Attr, AllocError>
     ensures { IfOk result (λ copy. copy ≡ attr.now) }
 {
-    Err(AllocError)
+    Ok(Attr {
+        span: attr.span,
+        name: attr.name,
+        dotted: attr.dotted,
+        args: attr.args,
+        uses: Listed::from_vec(Vec::from_slice(alloc, attr.uses.items())?),
+    })
 }

@@ -123,9 +123,6 @@ pub fn names_inside(
 ) -> Result<Vec<Span>, AllocError>
     ensures { IfOk result (λ names. names.items ≡ names_inside marks.now insides.now) }
 {
-<<<<<<< HEAD
-    Err(AllocError)
-=======
     let mut names = Vec::new(alloc);
     let mut elements = marks;
     let mut within = insides;
@@ -135,7 +132,6 @@ pub fn names_inside(
         within = behind(within, 1);
     }
     Ok(names)
->>>>>>> b226d9e1758cdd59be5b4b6a33aa39ec7abebc5b
 }
 
 /// Adds the names that an element gives, behind which `marks` stand, and inside which the first of `insides` does.

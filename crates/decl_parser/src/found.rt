@@ -39,9 +39,6 @@ pub fn found(alloc: Global, search: Search) -> Result<Findings, AllocError>
     requires { search.from ≤ length search.list.now }
     ensures { IfOk result (λ findings. seen findings ≡ found_from search.entry.blocks.now search.entry.own search.entry.list.now search.entry.from 0 (length search.entry.list.now - search.entry.from) search.entry.insides.now) }
 {
-<<<<<<< HEAD
-    Err(AllocError)
-=======
     let mut findings = Findings {
         attrs: Vec::new(alloc),
         uses: Vec::new(alloc),
@@ -53,14 +50,22 @@ pub fn found(alloc: Global, search: Search) -> Result<Findings, AllocError>
         at += count;
     }
     Ok(findings)
->>>>>>> b226d9e1758cdd59be5b4b6a33aa39ec7abebc5b
 }
 
 /// What is found in a whole list.
 pub fn found_in(alloc: Global, marks: &[Mark], insides: &[Inside]) -> Result<Findings, AllocError>
     ensures { IfOk result (λ findings. seen findings ≡ found_in marks.now insides.now) }
 {
-    Err(AllocError)
+    found(
+        alloc,
+        Search {
+            list: marks,
+            from: 0,
+            own: 0,
+            blocks: &[],
+            insides,
+        },
+    )
 }
 
 /// Adds what begins at the place, and answers how many elements it is.

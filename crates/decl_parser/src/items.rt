@@ -4,6 +4,8 @@ ghost use Rattle.std.specs.Prelude.{◌≡◌, ◌<◌, ◌≤◌, ◌+◌, ℕ,
 ghost use Rattle.swift_lexer.specs.Trees.{forest_of};
 ghost use Rattle.swift_tree.specs.Outlines.{item_of};
 ghost use Rattle.element_marks.specs.Answers.{Answers};
+ghost use Rattle.element_marks.specs.Heads.{first_is};
+ghost use Rattle.element_marks.specs.Sorts.{is_semicolon};
 ghost use Rattle.decl_parser.specs.Cut.{after, all_ends, beginning, block_of, braces_seen, closed, count_of, ends, head_of, item_at, kind_of, members_at, members_place, nothing_more, start_of, starter_of, use_ends, use_fits, whole_item, word_kind};
 ghost use Rattle.decl_parser.specs.Levels.{forest_size, insides, items_of_list, members, members_by};
 
@@ -85,12 +87,12 @@ pub fn items(
     let marks = marks_in(alloc, text, elements)?;
     let mut items = Vec::new(alloc);
     let mut at = 0;
-    'items: while let Some(mark) = marks.get(at) {
+    'items: while at < marks.len() {
         let rest = behind(&marks, at);
-        if is_semicolon(mark) {
+        if first_semicolon(rest) {
             at += 1;
-        } else if mark.head == 0 {
-            return Err(fault(mark.start, ParseKind::NotADeclaration));
+        } else if head_of(rest) == 0 {
+            return Err(fault(start_of(rest), ParseKind::NotADeclaration));
         } else {
             let count = count_of(rest);
             let own = Own {
@@ -105,6 +107,15 @@ pub fn items(
         }
     }
     Ok(items)
+}
+
+fn first_semicolon(marks: &[Mark]) -> bool
+    ensures { result ≡ first_is is_semicolon marks.now }
+{
+    match marks.first() {
+        Some(mark) => is_semicolon(mark),
+        None => false,
+    }
 }
 
 /// The declaration that the elements are, or its first fault; `next` stands behind it.
@@ -125,7 +136,13 @@ fn item_at(
     let braces = members_place(&starter, head, marks);
     let insides = insides_without(alloc, own.text, own.elements, braces)?;
     let kind = kind_of(&starter);
-    let parts = parts_of(alloc, kind, &starter, behind(marks, head), behind(&insides, head))?;
+    let parts = parts_of(
+        alloc,
+        kind,
+        &starter,
+        behind(marks, head),
+        behind(&insides, head),
+    )?;
     let members = members_at(alloc, own.text, own.elements, braces)?;
     all_ends(parts.body, &starter, own.list, own.from)?;
     Ok(assembled(alloc, own, next, kind, parts, &insides, members)?)

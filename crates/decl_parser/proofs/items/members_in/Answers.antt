@@ -16,8 +16,8 @@ returns-clause-members c text =
     ap (members_by text) c.group_inside.ensures
     ∙ members_inside text (tree_of element)
     ∙ sym (ap (λ p. members_at p (members text (forest_of c.args.elements.now))) c.in_ok-place.was
-        ∙ members_present text c.in_ok-place.field-0 c.args.elements.now element c.in_ok-get.ensures.lookup.3.0
-        ∙ ap (λ e. members_of text (tree_of e)) (sym c.in_ok-get.ensures.lookup.1))
+    ∙ members_present text c.in_ok-place.field-0 c.args.elements.now element c.in_ok-get.ensures.lookup.3.0
+    ∙ ap (λ e. members_of text (tree_of e)) (sym c.in_ok-get.ensures.lookup.1))
 
 pub returns-clause-smaller : goal.returns-clause-smaller
 returns-clause-smaller c inner is =

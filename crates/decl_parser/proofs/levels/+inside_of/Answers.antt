@@ -18,8 +18,8 @@ returns-in_ok-marks-in-Nest n c =
     let inner = c.in-Nest.inner.items in
     let marks : c.deref-in-Nest.result.now ≡ level text (forest_of inner) = c.deref-in-Nest.ensures.value ∙ c.in_ok-marks-in-Nest.ensures ∙ ap (λ es. level text (forest_of es)) c.deref.ensures.value in
     let list : c.deref-in-Nest-2.result.now ≡ insides text (forest_of inner) =
-        c.deref-in-Nest-2.ensures.value ∙ sym (append-nil c.inner.list.items) ∙ sym (ap (λ es. c.inner.list.items ++ insides text (forest_of es)) (drop_all c.inner.part-index inner (omega (arith, c.inner-test.false, ap length c.deref-part-items.ensures.value)))) ∙ c.inner.invariant in
+    c.deref-in-Nest-2.ensures.value ∙ sym (append-nil c.inner.list.items) ∙ sym (ap (λ es. c.inner.list.items ++ insides text (forest_of es)) (drop_all c.inner.part-index inner (omega (arith, c.inner-test.false, ap length c.deref-part-items.ensures.value)))) ∙ c.inner.invariant in
     let whole : read_inside c.deref-in-Nest.result.now c.deref-in-Nest-2.result.now ≡ inside_of text (tree_of c.args.element.now) =
-        ap (λ m. read_inside m c.deref-in-Nest-2.result.now) marks ∙ ap (read_inside (level text (forest_of inner))) list
-        ∙ sym (ap (λ e. inside_of text (tree_of e)) c.in-Nest.is ∙ ap (inside_of text) (tree_of-nest c.in-Nest.left c.in-Nest.inner c.in-Nest.right)) in
+    ap (λ m. read_inside m c.deref-in-Nest-2.result.now) marks ∙ ap (read_inside (level text (forest_of inner))) list
+    ∙ sym (ap (λ e. inside_of text (tree_of e)) c.in-Nest.is ∙ ap (inside_of text) (tree_of-nest c.in-Nest.left c.in-Nest.inner c.in-Nest.right)) in
     subst (λ x. IfOk c.read_inside.result (λ inside. inside ≡ x)) whole c.read_inside.ensures

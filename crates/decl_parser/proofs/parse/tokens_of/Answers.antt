@@ -1,4 +1,6 @@
 use Rattle.std.proofs.Common.{◌≡◌, ◌∙◌, ap, sym, subst, Ok, Err}
+use Rattle.swift_lexer.specs.Answers as lexer
+use Rattle.swift_lexer.specs.Tokens.{IsLexed}
 use Rattle.element_marks.specs.Answers.{Refuses}
 use Rattle.decl_parser.specs.Outline.{read_tokens}
 use Rattle.decl_parser.proofs.Readings.{tokens_read, too_long}
@@ -15,4 +17,4 @@ pub returns-in-Err-Fault-clause-tokens : goal.returns-in-Err-Fault-clause-tokens
 returns-in-Err-Fault-clause-tokens c =
     subst (λ r. Refuses r (λ outcome. outcome ≡ read_tokens c.args.text.now)) (sym c.fault-in-Err-Fault.ensures)
     (ap (λ k. Err (record { at = c.in-Err-Fault.field-0-0.at; kind = k })) c.of_lexing.ensures
-        ∙ tokens_read c.args.text.now (Err c.in-Err-Fault.field-0-0) c.if-text-gt-LONGEST_SOURCE.false c.in-Err-Fault.ensures)
+    ∙ tokens_read c.args.text.now (Err c.in-Err-Fault.field-0-0) c.if-text-gt-LONGEST_SOURCE.false (subst (λ r. lexer.Refuses r (IsLexed c.args.text.now)) c.in-Err-Fault.field-0-is (subst (λ r. lexer.Answers (λ tokens. tokens.items) r (IsLexed c.args.text.now)) c.in-Err-Fault.is c.lex.ensures)))
