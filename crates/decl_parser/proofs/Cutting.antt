@@ -1,6 +1,7 @@
 -- Walks over declarations: what is left behind those that were read.
-use Rattle.std.proofs.Common.{◌≡◌, refl, ℕ, zero, suc, ◌+◌, ◌-◌, ◌<◌, ◌==◌, ◌∙◌, ap, sym, subst, arith, List, [], ◌∷◌, ◌++◌, length, drop, take, map, Result, Ok, Err, Bool, true, false, if◌then◌else◌}
-use Rattle.std.proofs.lemmas.List.{map_push}
+use Rattle.std.proofs.Common.{◌≡◌, refl, ℕ, zero, suc, ◌+◌, ◌-◌, ◌<◌, ◌≤◌, ◌==◌, ◌∙◌, ap, sym, subst, arith, List, [], ◌∷◌, ◌++◌, length, drop, take, map, Result, Ok, Err, Bool, true, false, if◌then◌else◌}
+use Rattle.std.proofs.Math.Dec.{eqb-suc-zero}
+use Rattle.std.proofs.lemmas.List.{map_push, length-take}
 use Rattle.swift_lexer.specs.declared.element.Element.{Element}
 use Rattle.swift_lexer.specs.Trees.{Forest, forest_of}
 use Rattle.element_marks.specs.Levels.{level}
@@ -16,15 +17,12 @@ use Rattle.decl_parser.specs.declared.place.Place.{Place}
 use Rattle.decl_parser.specs.declared.inside.Inside.{Inside}
 use Rattle.decl_parser.specs.Faults.{fault}
 use Rattle.decl_parser.specs.Parts.{prefixed}
-use Rattle.decl_parser.specs.Levels.{insides, items_of_list, members}
+use Rattle.decl_parser.specs.Levels.{forest_size, insides, items_of_list, members}
 use Rattle.decl_parser.specs.Cut.{MembersRead, count_of, cut_from, head_of, items_in, item_at, one_item, start_of, with_first}
 use Rattle.decl_parser.proofs.Prefixes.{prefixed_more}
 use Rattle.decl_parser.proofs.Grouped.{insides_take, insides_drop, members_take, members_drop}
 
 module _ (place : Place) (marks : List Mark) (all_insides : List Inside) (all_members : List MembersRead) where
-  cut : ℕ → ℕ → ℕ → MembersRead
-  cut at inside left = cut_from place marks all_insides all_members at inside left
-
   pub cut_skip : (at inside left : ℕ) → cut_from place marks all_insides all_members at inside left ≡ cut_from place marks all_insides all_members (at + inside) 0 (left - inside)
   cut_skip at inside zero = let none : 0 - inside ≡ 0 = omega arith in sym (ap (cut_from place marks all_insides all_members (at + inside) 0) none)
   cut_skip at zero (suc left) =
@@ -38,7 +36,7 @@ module _ (place : Place) (marks : List Mark) (all_insides : List Inside) (all_me
       ∙ ap (λ n. cut_from place marks all_insides all_members n 0 (left - inside)) there ∙ ap (cut_from place marks all_insides all_members (at + suc inside) 0) rest
 
   -- what is left from a place on
-  pub rest_from : ℕ → MembersRead
+  abbrev pub rest_from : ℕ → MembersRead
   rest_from at = cut_from place marks all_insides all_members at 0 (length marks - at)
 
   pub past_semicolon : (at : ℕ) → at < length marks → first_is is_semicolon (drop at marks) ≡ true → rest_from (at + 1) ≡ rest_from at
@@ -104,9 +102,25 @@ count_positive marks some = omega (arith, some)
 
 pub not_zero : (n : ℕ) → 0 < n → (n == 0) ≡ false
 not_zero zero some = absurd (omega (arith, some))
-not_zero (suc n) some = refl
+not_zero (suc n) some = eqb-suc-zero n
 
 -- the whole list, by its marks
 pub list_is : (place : Place) (text : List ℕ) (forest : Forest) (marks : List Mark) → marks ≡ level text forest → cut_from place marks (insides text forest) (members text forest) 0 0 (length marks) ≡ items_of_list place text forest
 unfolding items_of_list items_in
 list_is place text forest marks is = ap (λ m. cut_from place m (insides text forest) (members text forest) 0 0 (length m)) is
+
+-- a part of a list is no larger
+pub size_take : (n : ℕ) (elements : List Element) → forest_size (forest_of (take n elements)) ≤ forest_size (forest_of elements)
+size_take zero [] = omega arith
+size_take zero (element ∷ elements) = omega arith
+size_take (suc n) [] = omega arith
+size_take (suc n) (element ∷ elements) = omega (arith, size_take n elements)
+
+pub size_drop : (n : ℕ) (elements : List Element) → forest_size (forest_of (drop n elements)) ≤ forest_size (forest_of elements)
+size_drop zero [] = omega arith
+size_drop zero (element ∷ elements) = omega arith
+size_drop (suc n) [] = omega arith
+size_drop (suc n) (element ∷ elements) = omega (arith, size_drop n elements)
+
+pub within_front : (at more : ℕ) (marks : List Mark) → at < length marks → at ≤ length (take (at + more) marks)
+within_front at more marks within = omega (arith, within, length-take (at + more) marks)
