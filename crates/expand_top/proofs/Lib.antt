@@ -6,4 +6,5 @@ pub mod Links
 pub mod Promises
 pub mod LastParts
 pub mod Outlines
-pub mod Readings
+pub mod Lines
+pub mod Replies

@@ -6,7 +6,7 @@ use Rattle.swift_tree.specs.declared.item.Kind.{Kind}
 use Rattle.swift_tree.specs.declared.item.Kind.TheVariants as kind
 use Rattle.swift_tree.specs.declared.item.MacroUse.{MacroUse}
 use Rattle.swift_tree.specs.declared.item.Attr.{Attr}
-use Rattle.swift_tree.specs.declared.item.Item.{Item}
+use Rattle.swift_tree.specs.declared.item.Item.{Item, out-Item}
 use Rattle.swift_tree.specs.declared.outline.Shape.TheVariants.{File}
 use Rattle.swift_tree.specs.Outlines.{Head, ItemSeen, item, BlockSeen, no_block, block, ItemsSeen, none, cons}
 use Rattle.decl_parser.specs.Outline.{OutlineOutcome, outline}
@@ -106,11 +106,14 @@ unfoldable pub not_built_places : List ℕ → Macros → List Head → List ℕ
 not_built_places text macros declarations =
     ((macros.others ++ flat_map use_place declarations) ++ later_places (all_uses declarations)) ++ flat_map (head_places text macros.declarations) declarations
 
+abbrev pub lesser : Option ℕ → ℕ → ℕ
+lesser None number = number
+lesser (Some so_far) number = min so_far number
+
 -- the least of numbers
 abbrev pub least_from : Option ℕ → List ℕ → Option ℕ
 least_from so_far [] = so_far
-least_from None (first ∷ others) = least_from (Some first) others
-least_from (Some so_far) (first ∷ others) = least_from (Some (min so_far first)) others
+least_from so_far (number ∷ others) = least_from (Some (lesser so_far number)) others
 
 abbrev pub least : List ℕ → Option ℕ
 least numbers = least_from None numbers
@@ -137,4 +140,4 @@ reading_of text = reading_by text (outline text File)
 
 -- a declaration of the code without its block
 abbrev pub head_of : Item → Head
-head_of i = record { span = i.span; after = i.after; kind = i.kind; attrs = i.attrs; names = i.names; bindings = i.bindings; inherits = i.inherits; extended = i.extended; uses = i.uses; locals = i.locals }
+head_of i = let own = out-Item i in record { span = own.span; after = own.after; kind = own.kind; attrs = own.attrs; names = own.names; bindings = own.bindings; inherits = own.inherits; extended = own.extended; uses = own.uses; locals = own.locals }

@@ -34,7 +34,10 @@ fn put_item<'a>(item: &'a Item, row: &mut Vec<&'a Item>) -> Result<(), AllocErro
 {
     row.push(item)?;
     match &item.block {
-        Some(block) => put_items(&block.members, row),
+        Some(block) => {
+            put_items(&block.members, row)?;
+            Ok(())
+        }
         None => Ok(()),
     }
 }

@@ -1,7 +1,8 @@
 // The places of what is not expanded yet.
 ghost use Rattle.std.specs.Prelude.{◌≡◌, ◌++◌, ◌&&◌, ◌∷◌, not, if◌then◌else◌, [], map, drop, IfOk};
 ghost use Rattle.std.specs.List.{flat_map};
-ghost use Rattle.expand_top.specs.Reading.{names_macro, is_use, use_place, attribute_place, attribute_places, head_places, later_places, not_built_places, least, least_from, all_uses, head_of};
+ghost use Rattle.expand_top.specs.Elements.{text_at};
+ghost use Rattle.expand_top.specs.Reading.{names_macro, is_use, use_place, attribute_place, attribute_places, head_places, later_places, not_built_places, least, lesser, all_uses, head_of};
 
 use crate::declarations::Declaration;
 use crate::elements::{behind, text_at};
@@ -41,7 +42,8 @@ fn put_use_places(row: &[&Item], places: &mut Vec<u32>) -> Result<(), AllocError
 fn put_later_places(uses: &[MacroUse], places: &mut Vec<u32>) -> Result<(), AllocError>
     ensures { IfOk result (λ _. places.new.items ≡ places.old.items ++ later_places uses.now) }
 {
-    'uses: for macro_use in behind(uses, 1) {
+    let later = behind(uses, 1);
+    'later: for macro_use in later {
         places.push(macro_use.span.start)?;
     }
     Ok(())
@@ -133,7 +135,7 @@ pub fn not_built_places(
 }
 
 fn lesser(so_far: Option<u32>, number: u32) -> u32
-    ensures { least_from so_far (number ∷ []) ≡ Some result }
+    ensures { result ≡ lesser so_far number }
 {
     match so_far {
         Some(least) => least.min(number),

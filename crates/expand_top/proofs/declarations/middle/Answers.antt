@@ -2,7 +2,7 @@ use Rattle.std.proofs.Common.{◌-◌, ◌∙◌, ap, sym, List, length, take, d
 use Rattle.std.proofs.lemmas.List.{take-map, drop-map, length-map}
 use Rattle.swift_lexer.specs.Trees.{tree_of}
 use Rattle.swift_lexer.specs.declared.element.Element.{Element}
-use Rattle.expand_top.proofs.line.middle.Goals as goal
+use Rattle.expand_top.proofs.declarations.middle.Goals as goal
 
 pub returns : goal.returns
 returns c =
