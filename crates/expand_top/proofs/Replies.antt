@@ -11,6 +11,6 @@ at_of : OutlineOutcome → ℕ
 at_of outcome = elim outcome [ Ok seen ↦ 0 | Err fault ↦ fault.at ]
 
 pub too_long_at_beginning : (text : List ℕ) (shape : Shape) (fault : ParseFault) → Err fault ≡ outline text shape → LONGEST_SOURCE < length text → fault.at ≡ 0
-unfolding outline
+unfolding outline at_of
 too_long_at_beginning text shape fault is long =
     let cut : outline text shape ≡ Err (record { at = 0; kind = SourceTooLarge }) = rw (lt-ltb LONGEST_SOURCE (length text) long) refl in ap at_of (is ∙ cut)
