@@ -1,5 +1,5 @@
 -- What was asked keeps the promises of processes, starts and stops.
-use Rattle.std.proofs.Common.{◌≡◌, ℕ, Option, Some, None, option_map, Result, Ok, Err, List, [], ◌∷◌, refl, sym, ap, ◌∙◌, subst, append-nil, le_refl}
+use Rattle.std.proofs.Common.{◌≡◌, ℕ, Option, Some, None, option_map, List, [], ◌∷◌, refl, sym, ap, ◌∙◌, subst, append-nil, le_refl}
 use Rattle.swift_base.specs.Outside.{StarterSeen, Commands, TakesLink, then_started, then_failed}
 use Rattle.swift_base.specs.declared.plugins.Plugin.{Plugin}
 use Rattle.expand_top.specs.Answer.{Output}

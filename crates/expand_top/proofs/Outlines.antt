@@ -3,7 +3,7 @@ use Rattle.std.proofs.Common.{◌≡◌, Option, Some, None, List, [], ◌∷◌
 use Rattle.swift_tree.specs.declared.item.Block.TheOpen.{Item-F}
 use Rattle.swift_tree.specs.declared.item.Block.{Block, out-Block, fold_out-Block}
 use Rattle.swift_tree.specs.declared.item.Item.{Item, out-Item, map-Item, fold_out-Item}
-use Rattle.swift_tree.specs.Outlines.{Head, ItemSeen, item, BlockSeen, no_block, block, ItemsSeen, none, cons, block_from, block_step, item_step, block_of, item_of, items_of}
+use Rattle.swift_tree.specs.Outlines.{Head, ItemSeen, item, BlockSeen, block, block_from, block_step, item_step, block_of, item_of, items_of}
 use Rattle.expand_top.specs.Reading.{head_of, heads, heads_from, heads_in, outer_head, outer_heads}
 
 mapped : Item-F Block Item → Item-F BlockSeen ItemSeen

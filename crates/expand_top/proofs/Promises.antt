@@ -1,5 +1,5 @@
 -- The promises of a run, from what one run does.
-use Rattle.std.proofs.Common.{◌≡◌, ◌⊎◌, inl, inr, ℕ, ◌<◌, ◌++◌, Option, Some, None, Result, Ok, Err, List, [], ◌∷◌, take, drop, codes, refl, sym, ap, ◌∙◌, append_assoc, arith}
+use Rattle.std.proofs.Common.{◌≡◌, ◌⊎◌, inl, inr, ℕ, ◌<◌, ◌++◌, Option, Some, None, List, [], ◌∷◌, take, drop, codes, refl, sym, ap, ◌∙◌, append_assoc, arith}
 use Rattle.swift_base.specs.Told.{then_bytes, Rose}
 use Rattle.swift_base.specs.Outside.{SinkSeen, FilesSeen}
 use Rattle.swift_base.specs.declared.plugins.Plugin.{Plugin}

@@ -1,12 +1,8 @@
 -- What the expansion of a source answers. This project's own; the lines are those of compilers.
-use Rattle.std.specs.Prelude.{◌≡◌, ℕ, ◌<◌, ◌==◌, ◌&&◌, ◌||◌, not, nat_lt, if◌then◌else◌, Bool, true, false, Option, Some, None, Result, Ok, Err, List, [], ◌∷◌, ◌++◌, length, map, take, drop, decimal, codes}
-use Rattle.std.specs.List.{list_any}
+use Rattle.std.specs.Prelude.{◌≡◌, ℕ, ◌<◌, ◌==◌, ◌&&◌, ◌||◌, nat_lt, if◌then◌else◌, Bool, true, false, Option, Some, None, Ok, Err, List, [], ◌∷◌, ◌++◌, length, map, take, drop, decimal, codes}
 use Rattle.swift_base.specs.Lines.{line_behind, column_behind}
 use Rattle.swift_tree.specs.declared.item.MacroUse.{MacroUse}
-use Rattle.swift_tree.specs.declared.item.Attr.{Attr}
 use Rattle.swift_tree.specs.declared.outline.Shape.TheVariants.{Expression}
-use Rattle.swift_tree.specs.Outlines.{OutlineSeen}
-use Rattle.decl_parser.specs.declared.fault.ParseFault.{ParseFault}
 use Rattle.decl_parser.specs.declared.parse.TheConstants.{LONGEST_SOURCE}
 use Rattle.decl_parser.specs.Outline.{OutlineOutcome, outline}
 use Rattle.unique_names.specs.Names.{discriminator_of}

@@ -7,7 +7,7 @@ use Rattle.swift_base.specs.declared.place.Span.{Span}
 use Rattle.swift_lexer.specs.declared.token.Token.{Token}
 use Rattle.swift_lexer.specs.declared.token.Class.{Class}
 use Rattle.swift_lexer.specs.declared.token.Class.TheVariants as class
-use Rattle.swift_lexer.specs.Trees.{Tree, leaf, nest, Forest, none, cons, tree_tokens, forest_tokens, forest_from, tree_of, forest_of}
+use Rattle.swift_lexer.specs.Trees.{Tree, leaf, nest, Forest, none, cons, forest_tokens, forest_from, tree_of, forest_of}
 use Rattle.swift_lexer.specs.Tiles.{bytes_of}
 use Rattle.expand_top.specs.declared.elements.Round as declared
 use Rattle.expand_top.specs.declared.elements.Shape.{Shape}

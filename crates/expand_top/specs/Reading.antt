@@ -1,5 +1,5 @@
 -- What a source means, as far as sources are expanded yet: this project's own, after SE-0382 and SE-0389.
-use Rattle.std.specs.Prelude.{ℕ, ◌&&◌, not, min, if◌then◌else◌, Bool, true, false, Option, Some, None, Result, Ok, Err, List, [], ◌∷◌, ◌++◌, map, drop, slice_get}
+use Rattle.std.specs.Prelude.{ℕ, ◌&&◌, not, min, if◌then◌else◌, Bool, true, false, Option, Some, None, Ok, Err, List, [], ◌∷◌, ◌++◌, map, drop, slice_get}
 use Rattle.std.specs.List.{flat_map, list_any}
 use Rattle.std.specs.Str.{bytes_eq}
 use Rattle.swift_tree.specs.declared.item.Kind.{Kind}

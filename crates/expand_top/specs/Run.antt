@@ -1,5 +1,5 @@
 -- What one call of the program does. This project's own.
-use Rattle.std.specs.Prelude.{◌≡◌, ℕ, ◌<◌, ◌≤◌, ◌++◌, Bool, Option, Some, None, Result, Ok, Err, List, [], ◌∷◌, length, take, codes}
+use Rattle.std.specs.Prelude.{◌≡◌, ℕ, ◌<◌, ◌≤◌, ◌++◌, Bool, Option, Some, List, [], ◌∷◌, length, take, codes}
 use Rattle.swift_base.specs.Told.{prepend, then_bytes, then_name, Rose}
 use Rattle.swift_base.specs.Outside.{SourceSeen, SinkSeen, FilesSeen, StarterSeen, HasContent, TakesLink, then_started, then_failed}
 use Rattle.swift_base.specs.declared.plugins.Plugin.{Plugin}
