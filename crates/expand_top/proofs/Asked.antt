@@ -1,17 +1,18 @@
 -- What was asked keeps the promises of processes, starts and stops.
-use Rattle.std.proofs.Common.{◌≡◌, ℕ, Option, Some, None, option_map, Result, Ok, Err, List, [], ◌∷◌, refl, sym, ap, ◌∙◌, subst, append-nil, le_refl}
+use Rattle.std.proofs.Common.{◌≡◌, ℕ, Option, Some, None, option_map, List, [], ◌∷◌, refl, sym, ap, ◌∙◌, subst, append-nil, le_refl}
 use Rattle.swift_base.specs.Outside.{StarterSeen, Commands, TakesLink, then_started, then_failed}
 use Rattle.swift_base.specs.declared.plugins.Plugin.{Plugin}
 use Rattle.expand_top.specs.Answer.{Output}
-use Rattle.expand_top.specs.Form.{text_at}
+use Rattle.expand_top.specs.Elements.{text_at}
 use Rattle.expand_top.specs.Promises.{site_in, OfSource, asked_keys, AskedOnce, Each, IsServed, LinksServe}
 use Rattle.expand_top.specs.Run.{LinkSeen, Asking, NothingAsked, IsProcess, IsFailedStart, IsAsked, of_process, not_started, IsAskedFor, IsAskedAt, IsExpansionOf, IsExpansion}
 use Rattle.expand_top.specs.Site.{KeySteps, plugin_for, asked_at, key_of, request_of, sent_for}
-use Rattle.expand_top.specs.Source.{Form}
-use Rattle.expand_top.specs.declared.fault.TextFault.{TextFault}
+use Rattle.expand_top.specs.Reading.{reading_of}
+use Rattle.expand_top.specs.declared.reading.Reading.{Reading}
+use Rattle.expand_top.specs.declared.reading.Reading.TheVariants as reading
 use Rattle.expand_top.specs.Starts.{whole_of, GaveLinks, EachPair, IsCommandOf, IsCommandFor, then_commands, StartsServe, Starts, StopsHaveCause, FailedBetween, FailedStartsHaveCause}
-use Rattle.expand_top.specs.declared.line.MacroUse.{MacroUse}
-use Rattle.expand_top.specs.declared.line.Declaration.{Declaration}
+use Rattle.swift_tree.specs.declared.item.MacroUse.{MacroUse}
+use Rattle.expand_top.specs.declared.declarations.Declaration.{Declaration}
 use Rattle.expand_top.specs.declared.link.Unstarted.{Unstarted}
 use Rattle.expand_top.specs.declared.site.Site.{Site}
 use Rattle.expand_top.specs.declared.site.Site.TheVariants as site
@@ -23,31 +24,31 @@ use Rattle.plugin_messages.specs.declared.message.Outcome.{Outcome}
 abbrev WasAsked : List ℕ → List Plugin → Asking → List ℕ → Site → Type 0
 WasAsked name plugins asking text place = (o : Option Outcome) × IsAskedAt name plugins text place asking o
 
-in_form : (name : List ℕ) (plugins : List Plugin) (text : List ℕ) (form : Result (Option Form) TextFault) (asking : Asking) (output : Output)
-    → IsExpansionOf name plugins text form asking output → WasAsked name plugins asking text (site_in text plugins form)
-in_form name plugins text (Err fault) asking output is = (None, is.0)
-in_form name plugins text (Ok None) asking output is = (None, is.0)
-in_form name plugins text (Ok (Some form)) asking output is = (is.0, is.1)
+in_reading : (name : List ℕ) (plugins : List Plugin) (text : List ℕ) (means : Reading) (asking : Asking) (output : Output)
+    → IsExpansionOf name plugins text means asking output → WasAsked name plugins asking text (site_in text plugins means)
+in_reading name plugins text (reading.Refused fault) asking output is = (None, is.0)
+in_reading name plugins text (reading.NotBuilt at) asking output is = (None, is.0)
+in_reading name plugins text (reading.Built form) asking output is = (is.0, is.1)
 
 in_source : (name : List ℕ) (plugins : List Plugin) (source : SourceRead) (asking : Asking) (output : Output)
     → IsExpansion name plugins source asking output → OfSource plugins source (WasAsked name plugins asking)
 in_source name plugins read.Nothing asking output is = is
 in_source name plugins read.Failed asking output is = (None, is.0)
 in_source name plugins read.Larger asking output is = (None, is.0)
-in_source name plugins (read.Bytes text) asking output (form, means, is) = (form, means, in_form name plugins text form asking output is)
+in_source name plugins (read.Bytes text) asking output is = in_reading name plugins text (reading_of text) asking output is
 
 of_each : (plugins : List Plugin) (source : SourceRead) (P Q : List ℕ → Site → Type 0) → ((text : List ℕ) (place : Site) → P text place → Q text place)
     → OfSource plugins source P → OfSource plugins source Q
 of_each plugins read.Nothing P Q more is = is
 of_each plugins read.Failed P Q more is = more [] site.Nothing is
 of_each plugins read.Larger P Q more is = more [] site.Nothing is
-of_each plugins (read.Bytes text) P Q more (form, means, is) = (form, means, more text (site_in text plugins form) is)
+of_each plugins (read.Bytes text) P Q more is = more text (site_in text plugins (reading_of text)) is
 
 always : (plugins : List Plugin) (source : SourceRead) (A : Type 0) → OfSource plugins source (λ text place. A) → A
 always plugins read.Nothing A is = absurd is
 always plugins read.Failed A is = is
 always plugins read.Larger A is = is
-always plugins (read.Bytes text) A (form, means, is) = is
+always plugins (read.Bytes text) A is = is
 
 -- a promise that each site keeps
 kept : (name : List ℕ) (plugins : List Plugin) (source : SourceRead) (asking : Asking) (output : Output) (Q : List ℕ → Site → Type 0)

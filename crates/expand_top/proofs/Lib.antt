@@ -1,8 +1,10 @@
 pub mod Requests
 pub mod Asked
 pub mod Found
-pub mod Marks
-pub mod Lines
+pub mod Stops
 pub mod Links
 pub mod Promises
 pub mod LastParts
+pub mod Outlines
+pub mod Lines
+pub mod Replies

@@ -1,22 +1,24 @@
 -- What the expansion of a source answers. This project's own; the lines are those of compilers.
-use Rattle.std.specs.Prelude.{◌≡◌, ℕ, ◌<◌, ◌≤◌, ◌==◌, ◌||◌, nat_lt, if◌then◌else◌, Bool, false, Option, Some, None, Result, option_and_then, List, [], ◌∷◌, ◌++◌, length, map, take, drop, slice_range, decimal, codes}
-use Rattle.std.specs.List.{list_any}
-use Rattle.std.specs.Result.{result_ok}
-use Rattle.expand_top.specs.declared.fault.TextFault.{TextFault}
+use Rattle.std.specs.Prelude.{◌≡◌, ℕ, ◌<◌, ◌==◌, ◌&&◌, ◌||◌, nat_lt, if◌then◌else◌, Bool, true, false, Option, Some, None, Ok, Err, List, [], ◌∷◌, ◌++◌, length, map, take, drop, decimal, codes}
 use Rattle.swift_base.specs.Lines.{line_behind, column_behind}
-use Rattle.swift_lexer.specs.Trees.{Tree, leaf, nest}
-use Rattle.expand_top.specs.Elements.{spells}
-use Rattle.expand_top.specs.Form.{text_at, any_marked}
-use Rattle.expand_top.specs.Source.{HasElements}
-use Rattle.expand_top.specs.declared.elements.Mark.TheVariants as mark
-use Rattle.expand_top.specs.declared.line.MacroUse.{MacroUse}
-use Rattle.expand_top.specs.declared.line.Declaration.{Declaration}
-use Rattle.expand_top.specs.declared.site.Site.{Site}
-use Rattle.expand_top.specs.declared.site.Site.TheVariants as site
-use Rattle.expand_top.specs.declared.report.Output as code
+use Rattle.swift_tree.specs.declared.item.MacroUse.{MacroUse}
+use Rattle.swift_tree.specs.declared.outline.Shape.TheVariants.{Expression}
+use Rattle.decl_parser.specs.declared.parse.TheConstants.{LONGEST_SOURCE}
+use Rattle.decl_parser.specs.Outline.{OutlineOutcome, outline}
+use Rattle.unique_names.specs.Names.{discriminator_of}
 use Rattle.plugin_messages.specs.declared.message.Diagnostic.{Diagnostic}
 use Rattle.plugin_messages.specs.declared.message.Outcome.{Outcome}
 use Rattle.plugin_messages.specs.declared.message.Outcome.TheVariants as outcome
+use Rattle.expand_top.specs.Elements.{text_at}
+use Rattle.expand_top.specs.Faults.{fault_text}
+use Rattle.expand_top.specs.Reading.{attribute_places}
+use Rattle.expand_top.specs.Site.{key_of}
+use Rattle.expand_top.specs.declared.declarations.Declaration.{Declaration}
+use Rattle.expand_top.specs.declared.site.Site.{Site}
+use Rattle.expand_top.specs.declared.site.Site.TheVariants as site
+use Rattle.expand_top.specs.declared.splice.Splice.{Splice}
+use Rattle.expand_top.specs.declared.splice.Splice.TheVariants as splice
+use Rattle.expand_top.specs.declared.report.Output as code
 
 -- what is written to standard output, to standard error, and the status
 pub record Output : Type 0 where
@@ -61,63 +63,58 @@ no_reply module_name = codes "plug-in '" ++ (module_name ++ codes "' gave no rep
 abbrev pub too_many_bytes : List ℕ
 too_many_bytes = codes "the plug-ins sent more than 67108864 bytes"
 
--- where an element begins and ends
-abbrev pub start_of : Tree → ℕ
-start_of (leaf token) = token.start
-start_of (nest left inner right) = left.start
+abbrev pub is_empty : {A : Type 0} → List A → Bool
+is_empty [] = true
+is_empty (x ∷ xs) = false
 
-abbrev pub end_of : Tree → ℕ
-end_of (leaf token) = token.end
-end_of (nest left inner right) = right.end
+abbrev pub splice_if : Bool → List ℕ → Splice
+splice_if true bytes = splice.Bytes bytes
+splice_if false bytes = splice.NotYet
 
-abbrev pub end_of_last : ℕ → List Tree → ℕ
-end_of_last end [] = end
-end_of_last end (tree ∷ trees) = end_of_last (end_of tree) trees
+-- a reply without uses and without attributes of declared macros is put in, from its first token to its last
+abbrev pub splice_by : List ℕ → List Declaration → List ℕ → OutlineOutcome → Splice
+splice_by text declarations reply (Err fault) = splice.Refused fault
+splice_by text declarations reply (Ok seen) =
+    splice_if (is_empty seen.uses && is_empty (attribute_places reply text declarations seen.locals)) (text_at reply seen.inside)
 
--- `;` outside brackets
-abbrev pub is_semicolon : List ℕ → Tree → Bool
-is_semicolon text (leaf token) = spells text token (codes ";")
-is_semicolon text (nest left inner right) = false
+-- what of a reply's text is put in the place of the use, in a source with these macros
+unfoldable pub splice_of : List ℕ → List Declaration → List ℕ → Splice
+splice_of text declarations reply = splice_by text declarations reply (outline reply Expression)
 
--- the text from the first token to the last, where it is one expression without uses and attributes
-unfoldable pub expression_in : List ℕ → List Tree → Option (List ℕ)
-expression_in text [] = None
-expression_in text (tree ∷ trees) =
-    if list_any (is_semicolon text) (tree ∷ trees) || any_marked text mark.Site (tree ∷ trees)
-    then None
-    else Some (slice_range text (start_of tree) (end_of_last (end_of tree) trees))
+-- the fault of a text that is too long to be read stands at its beginning
+abbrev pub IsNear : List ℕ → Splice → Type 0
+IsNear reply splice.NotYet = Unit {0}
+IsNear reply (splice.Refused fault) = LONGEST_SOURCE < length reply → fault.at ≡ 0
+IsNear reply (splice.Bytes bytes) = Unit {0}
 
--- What of a reply's text is put in the place of the use.
-pub data IsSplice (reply : List ℕ) : Option (List ℕ) → Type 0 where
-  too_long : 4194304 < length reply → IsSplice reply None
-  read : (elements : Result (List Tree) TextFault) (splice : Option (List ℕ)) → length reply ≤ 4194304 → HasElements reply elements
-      → splice ≡ option_and_then (expression_in reply) (result_ok elements) → IsSplice reply splice
-
--- the same of a reply: one without a text or with a diagnostic isn't put in yet
-abbrev pub IsReplySplice : Option (List ℕ) → List Diagnostic → Option (List ℕ) → Type 0
-IsReplySplice None diagnostics splice = splice ≡ None
-IsReplySplice (Some text) [] splice = IsSplice text splice
-IsReplySplice (Some text) (diagnostic ∷ diagnostics) splice = splice ≡ None
-
--- the same of an outcome, which may have no reply
-abbrev pub IsSpliceOf : Option Outcome → Option (List ℕ) → Type 0
-IsSpliceOf None splice = splice ≡ None
-IsSpliceOf (Some (outcome.Failed cause)) splice = splice ≡ None
-IsSpliceOf (Some (outcome.Reply text diagnostics)) splice = IsReplySplice text diagnostics splice
+-- the name of the buffer in which the reply to a use stands
+abbrev pub buffer_name : MacroUse → List ℕ
+buffer_name macro_use = discriminator_of (key_of macro_use) ++ codes ".swift"
 
 -- the source with the use's bytes replaced
 abbrev pub expanded : List ℕ → MacroUse → List ℕ → List ℕ
 expanded text macro_use splice = take macro_use.span.start text ++ (codes "(" ++ (splice ++ (codes ")" ++ drop macro_use.span.end text)))
 
-abbrev pub reply_output : List ℕ → List ℕ → MacroUse → Option (List ℕ) → Output
-reply_output name text macro_use None = refuses_at name text macro_use.span.start not_built
-reply_output name text macro_use (Some splice) = prints (expanded text macro_use splice)
+abbrev pub not_built_at : List ℕ → List ℕ → ℕ → Output
+not_built_at name text at = refuses_at name text at not_built
 
-abbrev pub outcome_output : List ℕ → List ℕ → MacroUse → Declaration → Option Outcome → Option (List ℕ) → Output
-outcome_output name text macro_use declaration None splice = refuses name 1 1 too_many_bytes
-outcome_output name text macro_use declaration (Some (outcome.Failed cause)) splice =
+abbrev pub spliced_output : List ℕ → List ℕ → MacroUse → List ℕ → Splice → Output
+spliced_output name text macro_use reply splice.NotYet = not_built_at name text macro_use.span.start
+spliced_output name text macro_use reply (splice.Refused fault) = refuses_at (buffer_name macro_use) reply fault.at (fault_text fault.kind)
+spliced_output name text macro_use reply (splice.Bytes bytes) = prints (expanded text macro_use bytes)
+
+-- a reply without a text or with a diagnostic isn't put in yet
+abbrev pub reply_output : List ℕ → List ℕ → List Declaration → MacroUse → Option (List ℕ) → List Diagnostic → Output
+reply_output name text declarations macro_use None diagnostics = not_built_at name text macro_use.span.start
+reply_output name text declarations macro_use (Some reply) [] = spliced_output name text macro_use reply (splice_of text declarations reply)
+reply_output name text declarations macro_use (Some reply) (diagnostic ∷ diagnostics) = not_built_at name text macro_use.span.start
+
+abbrev pub outcome_output : List ℕ → List ℕ → List Declaration → MacroUse → Declaration → Option Outcome → Output
+outcome_output name text declarations macro_use declaration None = refuses name 1 1 too_many_bytes
+outcome_output name text declarations macro_use declaration (Some (outcome.Failed cause)) =
     refuses_at name text macro_use.span.start (no_reply (text_at text declaration.module_name))
-outcome_output name text macro_use declaration (Some (outcome.Reply reply diagnostics)) splice = reply_output name text macro_use splice
+outcome_output name text declarations macro_use declaration (Some (outcome.Reply reply diagnostics)) =
+    reply_output name text declarations macro_use reply diagnostics
 
 abbrev pub unknown_output : List ℕ → List ℕ → MacroUse → Output
 unknown_output name text macro_use = refuses_at name text macro_use.span.start (no_macro (text_at text macro_use.name))
@@ -126,13 +123,12 @@ abbrev pub no_plugin_output : List ℕ → List ℕ → MacroUse → Declaration
 no_plugin_output name text macro_use declaration =
     refuses_at name text macro_use.span.start (no_plugin (text_at text declaration.module_name))
 
--- what is written for a source, by what stands at its use and the outcome of what was asked there
-abbrev pub IsSiteOutput : List ℕ → List ℕ → Site → Option Outcome → Output → Type 0
-IsSiteOutput name text site.Nothing outcome output = output ≡ prints text
-IsSiteOutput name text (site.Unknown macro_use) outcome output = output ≡ unknown_output name text macro_use
-IsSiteOutput name text (site.NoPlugin macro_use declaration) outcome output = output ≡ no_plugin_output name text macro_use declaration
-IsSiteOutput name text (site.Asks macro_use declaration) outcome output =
-    (splice : Option (List ℕ)) × IsSpliceOf outcome splice × (output ≡ outcome_output name text macro_use declaration outcome splice)
+-- what is written for a source with these macros, by what stands at its use and the outcome of what was asked there
+abbrev pub site_output : List ℕ → List ℕ → List Declaration → Site → Option Outcome → Output
+site_output name text declarations site.Nothing o = prints text
+site_output name text declarations (site.Unknown macro_use) o = unknown_output name text macro_use
+site_output name text declarations (site.NoPlugin macro_use declaration) o = no_plugin_output name text macro_use declaration
+site_output name text declarations (site.Asks macro_use declaration) o = outcome_output name text declarations macro_use declaration o
 
 -- the code's output, apart from where it lies in memory
 abbrev pub output_seen : code.Output → Output

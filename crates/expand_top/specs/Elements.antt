@@ -1,18 +1,21 @@
 -- What stands in a row of elements. This project's own.
-use Rattle.std.specs.Prelude.{ℕ, ◌==◌, ◌||◌, if◌then◌else◌, Bool, true, false, Option, Some, None, List, [], ◌∷◌, ◌++◌, map, slice_get, slice_range, take, option_and_then, codes}
+use Rattle.std.specs.Prelude.{ℕ, ◌||◌, if◌then◌else◌, Bool, true, false, Option, Some, None, List, [], ◌∷◌, map, slice_get, slice_range, option_and_then, codes}
 use Rattle.std.specs.List.{list_any}
 use Rattle.std.specs.Option.{option_map_or}
 use Rattle.std.specs.Str.{bytes_eq}
+use Rattle.swift_base.specs.declared.place.Span.{Span}
 use Rattle.swift_lexer.specs.declared.token.Token.{Token}
 use Rattle.swift_lexer.specs.declared.token.Class.{Class}
 use Rattle.swift_lexer.specs.declared.token.Class.TheVariants as class
-use Rattle.swift_lexer.specs.Trees.{Tree, leaf, nest, Forest, none, cons, tree_tokens, forest_tokens, tree_of, forest_of}
+use Rattle.swift_lexer.specs.Trees.{Tree, leaf, nest, Forest, none, cons, forest_tokens, forest_from, tree_of, forest_of}
 use Rattle.swift_lexer.specs.Tiles.{bytes_of}
 use Rattle.expand_top.specs.declared.elements.Round as declared
 use Rattle.expand_top.specs.declared.elements.Shape.{Shape}
 use Rattle.expand_top.specs.declared.elements.Shape.TheVariants as shape
-use Rattle.expand_top.specs.declared.elements.Mark.{Mark}
-use Rattle.expand_top.specs.declared.elements.Mark.TheVariants as mark
+
+-- a place of the text as bytes
+abbrev pub text_at : List ℕ → Span → List ℕ
+text_at text span = slice_range text span.start span.end
 
 abbrev pub spells : List ℕ → Token → List ℕ → Bool
 spells text token word = bytes_eq (bytes_of text token) word
@@ -23,34 +26,13 @@ is_site class.Pound = true
 is_site class.At = true
 is_site _ = false
 
--- a line feed or a carriage return stands directly before the token
-abbrev pub follows_line_feed : List ℕ → Token → Bool
-follows_line_feed text token = list_any (λ b. b == 10 || b == 13) (slice_range text token.trivia token.start)
+-- the same, `;`, `=` or `{`
+abbrev pub is_stop : List ℕ → Token → Bool
+is_stop text token = is_site token.class || spells text token (codes ";") || spells text token (codes "=") || spells text token (codes "{")
 
--- the name begins with `$sX`, also in backquotes
-abbrev pub is_reserved : List ℕ → Bool
-is_reserved name = bytes_eq (take 3 name) (codes "$sX") || bytes_eq (take 4 name) (codes "`$sX")
-
-abbrev pub has_mark : List ℕ → Mark → Token → Bool
-has_mark text mark.Site token = is_site token.class
-has_mark text mark.Stop token =
-    is_site token.class || spells text token (codes ";") || spells text token (codes "=") || spells text token (codes "{")
-has_mark text mark.LineFeed token = follows_line_feed text token
-has_mark text mark.Reserved token = is_reserved (bytes_of text token)
-
--- a token of the element, at any depth, has the mark
-unfoldable pub is_marked : List ℕ → Mark → Tree → Bool
-is_marked text mark tree = list_any (has_mark text mark) (tree_tokens tree)
-
--- a group goes on in a further line
-unfoldable pub spans_lines : List ℕ → Tree → Bool
-spans_lines text (leaf token) = false
-spans_lines text (nest left inner right) = list_any (has_mark text mark.LineFeed) (forest_tokens inner ++ right ∷ [])
-
--- the element begins a line
-unfoldable pub begins_line : List ℕ → Tree → Bool
-begins_line text (leaf token) = follows_line_feed text token
-begins_line text (nest left inner right) = follows_line_feed text left
+-- such a token stands in the elements, at any depth
+abbrev pub any_stop : List ℕ → List Tree → Bool
+any_stop text trees = list_any (is_stop text) (forest_tokens (forest_from trees))
 
 abbrev pub leaf_of : Tree → Option Token
 leaf_of (leaf token) = Some token

@@ -1,11 +1,11 @@
 pub mod Answer
 pub mod Command
+pub mod Declarations
 pub mod Elements
-pub mod Form
+pub mod Faults
 pub mod Link
 pub mod Promises
+pub mod Reading
 pub mod Run
 pub mod Site
-pub mod Source
 pub mod Starts
-pub mod Faults

@@ -1,34 +1,35 @@
 -- What a run promises of a source, promise by promise. This project's own.
-use Rattle.std.specs.Prelude.{◌≡◌, ◌⊎◌, ℕ, ◌<◌, ◌++◌, Option, Some, None, Result, Ok, Err, List, [], ◌∷◌, map, take, drop}
+use Rattle.std.specs.Prelude.{◌≡◌, ◌⊎◌, ℕ, ◌<◌, ◌++◌, List, [], ◌∷◌, map, take, drop}
 use Rattle.std.specs.List.{flat_map}
 use Rattle.swift_base.specs.Told.{then_bytes, Rose}
 use Rattle.swift_base.specs.Outside.{SinkSeen, FilesSeen}
 use Rattle.swift_base.specs.declared.plugins.Plugin.{Plugin}
-use Rattle.expand_top.specs.Form.{text_at}
+use Rattle.expand_top.specs.Elements.{text_at}
 use Rattle.expand_top.specs.Link.{IsWritten}
 use Rattle.expand_top.specs.Run.{LinkSeen, Asking}
 use Rattle.expand_top.specs.Site.{KeySteps, site_of, asked_at, key_of, request_of, sent_for}
-use Rattle.expand_top.specs.Source.{Form, IsForm}
-use Rattle.expand_top.specs.declared.fault.TextFault.{TextFault}
-use Rattle.expand_top.specs.declared.line.MacroUse.{MacroUse}
-use Rattle.expand_top.specs.declared.line.Declaration.{Declaration}
+use Rattle.expand_top.specs.Reading.{reading_of}
+use Rattle.expand_top.specs.declared.reading.Reading.{Reading}
+use Rattle.expand_top.specs.declared.reading.Reading.TheVariants as reading
+use Rattle.swift_tree.specs.declared.item.MacroUse.{MacroUse}
+use Rattle.expand_top.specs.declared.declarations.Declaration.{Declaration}
 use Rattle.expand_top.specs.declared.site.Site.{Site}
 use Rattle.expand_top.specs.declared.site.Site.TheVariants as site
 use Rattle.expand_top.specs.declared.ended.SourceRead.{SourceRead}
 use Rattle.expand_top.specs.declared.ended.SourceRead.TheVariants as read
 
--- what stands at the use of a source that was read: nothing where it could not be read, is refused or is of another form
-abbrev pub site_in : List ℕ → List Plugin → Result (Option Form) TextFault → Site
-site_in text plugins (Err fault) = site.Nothing
-site_in text plugins (Ok None) = site.Nothing
-site_in text plugins (Ok (Some form)) = site_of text plugins form
+-- what stands at the use of a source that was read: nothing where it is refused or is not expanded yet
+abbrev pub site_in : List ℕ → List Plugin → Reading → Site
+site_in text plugins (reading.Refused fault) = site.Nothing
+site_in text plugins (reading.NotBuilt at) = site.Nothing
+site_in text plugins (reading.Built form) = site_of text plugins form
 
 -- a fact about the source's text and what stands at its use
 abbrev pub OfSource : List Plugin → SourceRead → (List ℕ → Site → Type 0) → Type 0
 OfSource plugins read.Nothing P = ⊥
 OfSource plugins read.Failed P = P [] site.Nothing
 OfSource plugins read.Larger P = P [] site.Nothing
-OfSource plugins (read.Bytes text) P = (form : Result (Option Form) TextFault) × IsForm text form × P text (site_in text plugins form)
+OfSource plugins (read.Bytes text) P = P text (site_in text plugins (reading_of text))
 
 -- the keys that were asked, of processes and of starts that failed
 abbrev pub asked_keys : Asking → List KeySteps

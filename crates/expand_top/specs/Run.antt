@@ -1,21 +1,22 @@
 -- What one call of the program does. This project's own.
-use Rattle.std.specs.Prelude.{◌≡◌, ℕ, ◌<◌, ◌≤◌, ◌++◌, Bool, Option, Some, None, Result, Ok, Err, List, [], ◌∷◌, length, take, codes}
+use Rattle.std.specs.Prelude.{◌≡◌, ℕ, ◌<◌, ◌≤◌, ◌++◌, Bool, Option, Some, List, [], ◌∷◌, length, take, codes}
 use Rattle.swift_base.specs.Told.{prepend, then_bytes, then_name, Rose}
 use Rattle.swift_base.specs.Outside.{SourceSeen, SinkSeen, FilesSeen, StarterSeen, HasContent, TakesLink, then_started, then_failed}
 use Rattle.swift_base.specs.declared.plugins.Plugin.{Plugin}
-use Rattle.expand_top.specs.Answer.{Output, refuses, refuses_at, not_built, IsSiteOutput}
+use Rattle.expand_top.specs.Answer.{Output, refuses, refuses_at, not_built_at, site_output}
 use Rattle.expand_top.specs.Faults.{fault_text, too_large}
-use Rattle.expand_top.specs.declared.fault.TextFault.{TextFault}
-use Rattle.expand_top.specs.Form.{text_at}
+use Rattle.expand_top.specs.Elements.{text_at}
 use Rattle.expand_top.specs.Link.{StopHasCause, IsWritten, IsLinkOutcome, no_reply}
 use Rattle.expand_top.specs.Site.{KeySteps, site_of, plugin_for, key_of, request_of, sent_for}
-use Rattle.expand_top.specs.Source.{Form, IsForm}
+use Rattle.expand_top.specs.Reading.{reading_of}
+use Rattle.expand_top.specs.declared.reading.Reading.{Reading}
+use Rattle.expand_top.specs.declared.reading.Reading.TheVariants as reading
 use Rattle.expand_top.specs.declared.link.Stop.{Stop}
 use Rattle.expand_top.specs.declared.link.Closed.{Closed}
 use Rattle.expand_top.specs.declared.link.Unstarted.{Unstarted}
 use Rattle.plugin_messages.specs.declared.message.Outcome.{Outcome}
-use Rattle.expand_top.specs.declared.line.MacroUse.{MacroUse}
-use Rattle.expand_top.specs.declared.line.Declaration.{Declaration}
+use Rattle.swift_tree.specs.declared.item.MacroUse.{MacroUse}
+use Rattle.expand_top.specs.declared.declarations.Declaration.{Declaration}
 use Rattle.expand_top.specs.declared.site.Site.{Site}
 use Rattle.expand_top.specs.declared.site.Site.TheVariants as site
 use Rattle.expand_top.specs.declared.ended.SourceRead.{SourceRead}
@@ -125,15 +126,16 @@ IsAskedAt name plugins text (site.Unknown macro_use) asking o = NothingAsked ask
 IsAskedAt name plugins text (site.NoPlugin macro_use declaration) asking o = NothingAsked asking
 IsAskedAt name plugins text (site.Asks macro_use declaration) asking o = IsAskedFor name plugins text macro_use declaration asking o
 
--- the expansion of a source of the form that is read so far
-abbrev pub IsExpansionAt : List ℕ → List Plugin → List ℕ → Site → Asking → Output → Type 0
-IsExpansionAt name plugins text site asking output =
-    (o : Option Outcome) × IsAskedAt name plugins text site asking o × IsSiteOutput name text site o output
+-- what is asked and written for a source with these macros, by what stands at its use
+abbrev pub IsExpansionAt : List ℕ → List Plugin → List ℕ → List Declaration → Site → Asking → Output → Type 0
+IsExpansionAt name plugins text declarations site asking output =
+    (o : Option Outcome) × IsAskedAt name plugins text site asking o × (output ≡ site_output name text declarations site o)
 
-abbrev pub IsExpansionOf : List ℕ → List Plugin → List ℕ → Result (Option Form) TextFault → Asking → Output → Type 0
-IsExpansionOf name plugins text (Err fault) asking output = NothingAsked asking × (output ≡ refuses_at name text fault.at (fault_text fault.kind))
-IsExpansionOf name plugins text (Ok None) asking output = NothingAsked asking × (output ≡ refuses name 1 1 not_built)
-IsExpansionOf name plugins text (Ok (Some form)) asking output = IsExpansionAt name plugins text (site_of text plugins form) asking output
+-- what is asked and written for a source, by what it means
+abbrev pub IsExpansionOf : List ℕ → List Plugin → List ℕ → Reading → Asking → Output → Type 0
+IsExpansionOf name plugins text (reading.Refused fault) asking output = NothingAsked asking × (output ≡ refuses_at name text fault.at (fault_text fault.kind))
+IsExpansionOf name plugins text (reading.NotBuilt at) asking output = NothingAsked asking × (output ≡ not_built_at name text at)
+IsExpansionOf name plugins text (reading.Built form) asking output = IsExpansionAt name plugins text form.declarations (site_of text plugins form) asking output
 
 -- what is written where the source could not be read
 abbrev pub unread : List ℕ → Output
@@ -144,8 +146,7 @@ abbrev pub IsExpansion : List ℕ → List Plugin → SourceRead → Asking → 
 IsExpansion name plugins read.Nothing asking output = ⊥
 IsExpansion name plugins read.Failed asking output = NothingAsked asking × (output ≡ unread name)
 IsExpansion name plugins read.Larger asking output = NothingAsked asking × (output ≡ refuses name 1 1 too_large)
-IsExpansion name plugins (read.Bytes text) asking output =
-    (form : Result (Option Form) TextFault) × IsForm text form × IsExpansionOf name plugins text form asking output
+IsExpansion name plugins (read.Bytes text) asking output = IsExpansionOf name plugins text (reading_of text) asking output
 
 -- a stream gained all of the bytes
 pub record GainsAll (before after : SinkSeen) (bytes : List ℕ) : Type 0 where

@@ -8,8 +8,8 @@ use Rattle.swift_base.specs.declared.plugins.Plugin.{Plugin}
 use Rattle.unique_names.specs.declared.step.KeyStep.{KeyStep}
 use Rattle.unique_names.specs.declared.role.Role.TheVariants as role
 use Rattle.plugin_frames.specs.Frames.{frame_of}
-use Rattle.expand_top.specs.Form.{text_at}
-use Rattle.expand_top.specs.Source.{Form}
+use Rattle.expand_top.specs.Elements.{text_at}
+use Rattle.expand_top.specs.declared.reading.SourceForm.{SourceForm}
 use Rattle.plugin_messages.specs.RequestBytes.{greeting, host_of, host_payload_of}
 use Rattle.plugin_messages.specs.declared.request.Location.{Location}
 use Rattle.plugin_messages.specs.declared.request.MacroRef.{MacroRef}
@@ -17,8 +17,8 @@ use Rattle.plugin_messages.specs.declared.request.Parts.TheVariants.{Freestandin
 use Rattle.plugin_messages.specs.declared.request.Request.{Request}
 use Rattle.plugin_messages.specs.declared.request.Syntax.{Syntax}
 use Rattle.plugin_messages.specs.declared.request.SyntaxKind.TheVariants as kind
-use Rattle.expand_top.specs.declared.line.Declaration.{Declaration}
-use Rattle.expand_top.specs.declared.line.MacroUse.{MacroUse}
+use Rattle.expand_top.specs.declared.declarations.Declaration.{Declaration}
+use Rattle.swift_tree.specs.declared.item.MacroUse.{MacroUse}
 use Rattle.expand_top.specs.declared.site.Site.{Site}
 use Rattle.expand_top.specs.declared.site.Site.TheVariants as site
 
@@ -47,7 +47,7 @@ site_of_use text plugins declarations None = site.Nothing
 site_of_use text plugins declarations (Some macro_use) = site_at text plugins macro_use (declaration_for text macro_use declarations)
 
 -- what stands at the use of a source
-unfoldable pub site_of : List ℕ → List Plugin → Form → Site
+unfoldable pub site_of : List ℕ → List Plugin → SourceForm → Site
 site_of text plugins form = site_of_use text plugins form.declarations form.macro_use
 
 -- a command that can be started: it is UTF-8

@@ -3,13 +3,13 @@ use Rattle.std.specs.Prelude.{◌≡◌, ℕ, ◌<◌, ◌≤◌, ◌++◌, true
 use Rattle.swift_base.specs.Told.{prepend, Rose}
 use Rattle.swift_base.specs.Outside.{Commands}
 use Rattle.swift_base.specs.declared.plugins.Plugin.{Plugin}
-use Rattle.expand_top.specs.Form.{text_at}
+use Rattle.expand_top.specs.Elements.{text_at}
 use Rattle.expand_top.specs.Link.{StopHasCause}
 use Rattle.expand_top.specs.Promises.{OfSource, Each}
 use Rattle.expand_top.specs.Run.{LinkSeen, Asking}
 use Rattle.expand_top.specs.Site.{plugin_for, key_of}
-use Rattle.expand_top.specs.declared.line.MacroUse.{MacroUse}
-use Rattle.expand_top.specs.declared.line.Declaration.{Declaration}
+use Rattle.swift_tree.specs.declared.item.MacroUse.{MacroUse}
+use Rattle.expand_top.specs.declared.declarations.Declaration.{Declaration}
 use Rattle.expand_top.specs.declared.link.Unstarted.{Unstarted}
 use Rattle.expand_top.specs.declared.site.Site.{Site}
 use Rattle.expand_top.specs.declared.site.Site.TheVariants as site

@@ -2,16 +2,17 @@
 ghost use Rattle.std.specs.Prelude.{◌≡◌, ◌<◌, ◌^◌, ◌-◌, [], ◌∷◌, Some, length, map, IfOk};
 ghost use Rattle.std.specs.List.{All};
 ghost use Rattle.swift_base.specs.Outside.{IsFreshWriter, IsFreshReader};
-ghost use Rattle.expand_top.specs.Form.{text_at};
+ghost use Rattle.expand_top.specs.Elements.{text_at};
 ghost use Rattle.expand_top.specs.Run.{IsAsked, IsSpokenWith, IsAskedAt, IsAskedFor, asking_of, link_seen};
 ghost use Rattle.expand_top.specs.Site.{plugin_for, HasPlugin, IsStartable};
 
-use crate::line::{Declaration, MacroUse};
+use crate::declarations::Declaration;
 use crate::link::{Closed, Spoken, Unstarted, outcome_of, speak};
 use crate::site::{Site, command_for, copied, key_of, request_of, sent_for};
 use plugin_messages::{Cause, Outcome};
 use std::alloc::{AllocError, Global};
 use swift_base::{Plugin, Sink, Source, StartFault, Starter, Text};
+use swift_tree::MacroUse;
 use unique_names::Key;
 
 /// What was asked, and what became of it.

@@ -9,19 +9,21 @@ ghost use Rattle.expand_top.specs.Promises.{AskedOnce, LinksServe, KeepsBytes, S
 ghost use Rattle.expand_top.specs.Site.{HasPlugin, IsStartable};
 ghost use Rattle.expand_top.specs.Starts.{Starts, StopsHaveCause, FailedStartsHaveCause};
 ghost use Rattle.std.specs.List.{All};
-ghost use Rattle.expand_top.specs.Answer.{output_seen, refuses, refuses_at, not_built, IsSiteOutput};
+ghost use Rattle.expand_top.specs.Answer.{output_seen, refuses, refuses_at, not_built_at};
 ghost use Rattle.expand_top.specs.Faults.{fault_text, too_large};
-ghost use Rattle.expand_top.specs.Source.{Form, form_seen, IsForm};
+ghost use Rattle.expand_top.specs.Reading.{reading_of};
 
-use crate::answer::{NOT_BUILT, site_output};
+use crate::answer::{not_built_at, site_output};
 use crate::asking::ask_at;
 use crate::command::named_plugins;
+use crate::declarations::Declaration;
 use crate::ended::{Ended, SourceRead};
-use crate::fault::TextFault;
-use crate::form::read_form;
+use crate::faults::fault_text;
 use crate::link::{Closed, Unstarted};
+use crate::reading::{Reading, reading_of};
 use crate::report::{Output, refuses, refuses_at};
 use crate::site::{Site, site_of};
+use decl_parser::{ParseFault, ParseKind};
 use std::alloc::{AllocError, Global};
 use swift_base::{FileFault, Files, Plugin, Plugins, Sink, Starter, Text, WriteFault, write_all};
 
@@ -35,8 +37,6 @@ usage: expand [--macros FILE] [--width N] SOURCE [MODULE=COMMAND]...
 
 /// How many bytes a source may have.
 pub const LARGEST_SOURCE: u32 = 4_194_304;
-
-const TOO_LARGE: &[u8] = b"the text is longer than 4194304 bytes";
 
 fn put<S: Sink>(sink: &mut S, bytes: &Vec<u8>) -> Result<(), WriteFault>
     ensures all { OnOk result (GainsAll (S.seen sink.old) (S.seen sink.new) bytes.now.items) }
@@ -91,24 +91,30 @@ fn without_asking<W: Drop, R: Drop>(alloc: Global, output: Output) -> Expansion<
     }
 }
 
-fn not_built_yet(alloc: Global, name: &str) -> Result<Output, AllocError>
-    ensures { IfOk result (λ output. output_seen output ≡ refuses name.now 1 1 not_built) }
-{
-    refuses(alloc, name.as_bytes(), 1, 1, NOT_BUILT)
-}
-
 // The line of a text's first fault.
-fn refused(alloc: Global, name: &str, text: &[u8], fault: TextFault) -> Result<Output, AllocError>
+fn refused(alloc: Global, name: &str, text: &[u8], fault: ParseFault) -> Result<Output, AllocError>
     requires { length text.now < 2 ^ 32 - 1 }
     ensures { IfOk result (λ output. output_seen output ≡ refuses_at name.now text.now fault.at (fault_text fault.kind)) }
 {
-    refuses_at(alloc, name.as_bytes(), text, fault.at, fault.kind.text())
+    refuses_at(
+        alloc,
+        name.as_bytes(),
+        text,
+        fault.at,
+        fault_text(fault.kind),
+    )
 }
 
 fn too_large(alloc: Global, name: &str) -> Result<Output, AllocError>
     ensures { IfOk result (λ output. output_seen output ≡ refuses name.now 1 1 too_large) }
 {
-    refuses(alloc, name.as_bytes(), 1, 1, TOO_LARGE)
+    refuses(
+        alloc,
+        name.as_bytes(),
+        1,
+        1,
+        fault_text(ParseKind::SourceTooLarge),
+    )
 }
 
 fn unread(alloc: Global, name: &str) -> Result<Output, AllocError>
@@ -129,16 +135,24 @@ fn expand_site<P: Starter>(
     name: &str,
     plugins: &[Plugin],
     text: &[u8],
+    declarations: &[Declaration],
     site: Site,
 ) -> Result<Expansion<P::Writer, P::Reader>, AllocError>
     requires short { length text.now < 2 ^ 32 - 1 }
     requires commands { All IsStartable plugins.now }
     requires served { HasPlugin text.now plugins.now site }
-    ensures { IfOk result (λ e. IsExpansionAt name.now plugins.now text.now site
+    ensures { IfOk result (λ e. IsExpansionAt name.now plugins.now text.now declarations.now site
         (asking_of (map (link_seen P.Writer.seen P.Reader.seen) e.links.items) e.unstarted.items (P.seen starter.old) (P.seen starter.new)) (output_seen e.output)) }
 {
     let asked = ask_at(alloc, starter, name, plugins, text, site)?;
-    let output = site_output(alloc, name.as_bytes(), text, site, asked.outcome)?;
+    let output = site_output(
+        alloc,
+        name.as_bytes(),
+        text,
+        declarations,
+        site,
+        asked.outcome,
+    )?;
     let (links, unstarted) = (asked.links, asked.unstarted);
     Ok(Expansion {
         links,
@@ -157,18 +171,29 @@ fn expand_text<P: Starter>(
 ) -> Result<Expansion<P::Writer, P::Reader>, AllocError>
     requires short { length text.now ≤ 4194304 }
     requires commands { All IsStartable plugins.now }
-    ensures { IfOk result (λ e. (form : _) × IsForm text.now form × IsExpansionOf name.now plugins.now text.now form
+    ensures { IfOk result (λ e. IsExpansionOf name.now plugins.now text.now (reading_of text.now)
         (asking_of (map (link_seen P.Writer.seen P.Reader.seen) e.links.items) e.unstarted.items (P.seen starter.old) (P.seen starter.new)) (output_seen e.output)) }
 {
-    let form = match read_form(alloc, text)? {
-        Ok(form) => form,
-        Err(fault) => return Ok(without_asking(alloc, refused(alloc, name, text, fault)?)),
-    };
-    let Some(form) = form else {
-        return Ok(without_asking(alloc, not_built_yet(alloc, name)?));
-    };
-    let site = site_of(text, plugins.list(), &form);
-    expand_site(alloc, starter, name, plugins.list(), text, site)
+    match reading_of(alloc, text)? {
+        Reading::Refused(fault) => Ok(without_asking(alloc, refused(alloc, name, text, fault)?)),
+        Reading::NotBuilt(at) => {
+            let output = not_built_at(alloc, name.as_bytes(), text, at)?;
+            Ok(without_asking(alloc, output))
+        }
+        Reading::Built(form) => {
+            let site = site_of(text, plugins.list(), &form);
+            let declarations = form.declarations.items();
+            expand_site(
+                alloc,
+                starter,
+                name,
+                plugins.list(),
+                text,
+                declarations,
+                site,
+            )
+        }
+    }
 }
 
 // What is asked and written, by how the source was read.

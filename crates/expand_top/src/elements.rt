@@ -1,24 +1,11 @@
 // What stands in a row of elements.
-ghost use Rattle.std.specs.Prelude.{◌≡◌, ◌<◌, ◌≤◌, ◌==◌, ◌++◌, ◌∷◌, [], length, map, Some, None, MatchOption, slice_get, slice_range, take, drop, option_map};
+ghost use Rattle.std.specs.Prelude.{◌≡◌, ◌<◌, ◌≤◌, ◌==◌, ◌++◌, ◌∷◌, ◌+◌, ◌^◌, ◌-◌, min, [], length, map, Some, None, MatchOption, slice_get, slice_range, take, drop, option_map};
 ghost use Rattle.std.specs.List.{list_any};
 ghost use Rattle.swift_lexer.specs.Trees.{tree_of, forest_of, nest, tree_tokens, forest_tokens};
-ghost use Rattle.swift_lexer.specs.Tiles.{bytes_of};
-ghost use Rattle.expand_top.specs.Elements.{spells, is_site, follows_line_feed, has_mark, is_marked, spans_lines, begins_line, leaf_of, round_of, leaf_at, round_at, round_seen, tree_seen, spells_at};
+ghost use Rattle.expand_top.specs.Elements.{text_at, spells, is_site, is_stop, any_stop, leaf_of, round_of, leaf_at, round_at, round_seen, tree_seen, spells_at};
 
+use swift_base::Span;
 use swift_lexer::{Class, Element, Token};
-
-/// What a token may be looked for.
-#[derive(Clone, Copy, Debug, PartialEq, Eq)]
-pub enum Mark {
-    /// `#` before a word, or `@`.
-    Site,
-    /// The same, `;`, `=` or `{`.
-    Stop,
-    /// A line feed or carriage return before it.
-    LineFeed,
-    /// A name that begins as the names that are made for expansions do.
-    Reserved,
-}
 
 // The first n elements, or all where there are fewer.
 pub fn front<T>(items: &[T], n: usize) -> &[T]
@@ -49,13 +36,20 @@ pub fn part(text: &[u8], start: u32, end: u32) -> &[u8]
     )
 }
 
+/// The bytes of a place.
+pub fn text_at(text: &[u8], span: Span) -> &[u8]
+    ensures { result.now ≡ text_at text.now span }
+{
+    part(text, span.start, span.end)
+}
+
 pub fn spells(text: &[u8], token: Token, word: &[u8]) -> bool
     ensures { result ≡ spells text.now token word.now }
 {
     part(text, token.start, token.end) == word
 }
 
-pub fn is_site(class: Class) -> bool
+fn is_site(class: Class) -> bool
     ensures { result ≡ is_site class }
 {
     match class {
@@ -64,16 +58,8 @@ pub fn is_site(class: Class) -> bool
     }
 }
 
-fn follows_line_feed(text: &[u8], token: Token) -> bool
-    ensures { result ≡ follows_line_feed text.now token }
-{
-    part(text, token.trivia, token.start)
-        .iter()
-        .any(|b| *b == b'\n' || *b == b'\r')
-}
-
 fn is_stop(text: &[u8], token: Token) -> bool
-    ensures { result ≡ has_mark text.now Mark.Stop token }
+    ensures { result ≡ is_stop text.now token }
 {
     is_site(token.class)
         || spells(text, token, b";")
@@ -81,50 +67,32 @@ fn is_stop(text: &[u8], token: Token) -> bool
         || spells(text, token, b"{")
 }
 
-pub fn is_reserved(text: &[u8], token: Token) -> bool
-    ensures { result ≡ has_mark text.now Mark.Reserved token }
-{
-    let bytes = part(text, token.start, token.end);
-    front(bytes, 3) == b"$sX".as_slice() || front(bytes, 4) == b"`$sX".as_slice()
-}
-
-fn has_mark(text: &[u8], mark: Mark, token: Token) -> bool
-    ensures { result ≡ has_mark text.now mark token }
-{
-    match mark {
-        Mark::Site => is_site(token.class),
-        Mark::Stop => is_stop(text, token),
-        Mark::LineFeed => follows_line_feed(text, token),
-        Mark::Reserved => is_reserved(text, token),
-    }
-}
-
-/// Whether a token of the element, at any depth, has the mark.
-pub fn is_marked(text: &[u8], mark: Mark, element: &Element) -> bool
-    ensures { result ≡ list_any (has_mark text.now mark) (tree_tokens (tree_of element.now)) }
+// Whether `#` before a word, `@`, `;`, `=` or `{` stands in the element, at any depth.
+fn has_stop(text: &[u8], element: &Element) -> bool
+    ensures { result ≡ list_any (is_stop text.now) (tree_tokens (tree_of element.now)) }
 {
     match element {
-        Element::Leaf(token) => has_mark(text, mark, *token),
+        Element::Leaf(token) => is_stop(text, *token),
         Element::Nest { left, inner, right } => {
-            if has_mark(text, mark, *left) {
+            if is_stop(text, *left) {
                 return true;
             }
             'inner: for part in inner.iter() {
-                if is_marked(text, mark, part) {
+                if has_stop(text, part) {
                     return true;
                 }
             }
-            has_mark(text, mark, *right)
+            is_stop(text, *right)
         }
     }
 }
 
-/// Whether a token of the elements, at any depth, has the mark.
-pub fn row_is_marked(text: &[u8], mark: Mark, elements: &[Element]) -> bool
-    ensures { result ≡ list_any (has_mark text.now mark) (forest_tokens (forest_of elements.now)) }
+/// The same of a row of elements.
+pub fn any_stop(text: &[u8], elements: &[Element]) -> bool
+    ensures { result ≡ any_stop text.now (map tree_of elements.now) }
 {
     'row: for element in elements {
-        if is_marked(text, mark, element) {
+        if has_stop(text, element) {
             return true;
         }
     }
@@ -133,7 +101,7 @@ pub fn row_is_marked(text: &[u8], mark: Mark, elements: &[Element]) -> bool
 
 // One level of an element.
 #[derive(Clone, Copy)]
-pub enum Shape<'a> {
+enum Shape<'a> {
     Leaf(Token),
     Nest {
         left: Token,
@@ -142,7 +110,7 @@ pub enum Shape<'a> {
     },
 }
 
-pub fn shape_of(element: &Element) -> Shape<'_>
+fn shape_of(element: &Element) -> Shape<'_>
     ensures { tree_of element.now ≡ tree_seen result }
 {
     match element {
@@ -152,37 +120,6 @@ pub fn shape_of(element: &Element) -> Shape<'_>
             inner,
             right: *right,
         },
-    }
-}
-
-/// Whether a group goes on in a further line.
-#[tactic(auto, unfolding(crate::specs::Elements::spans_lines))]
-pub fn spans_lines(text: &[u8], element: &Element) -> bool
-    ensures { result ≡ spans_lines text.now (tree_of element.now) }
-{
-    match shape_of(element) {
-        Shape::Leaf(_) => false,
-        Shape::Nest {
-            left: _,
-            inner,
-            right,
-        } => holds_line_feed(text, inner, right),
-    }
-}
-
-fn holds_line_feed(text: &[u8], inner: &[Element], right: Token) -> bool
-    ensures { result ≡ list_any (has_mark text.now Mark.LineFeed) (forest_tokens (forest_of inner.now) ++ right ∷ []) }
-{
-    row_is_marked(text, Mark::LineFeed, inner) || has_mark(text, Mark::LineFeed, right)
-}
-
-#[tactic(auto, unfolding(crate::specs::Elements::begins_line))]
-pub fn begins_line(text: &[u8], element: &Element) -> bool
-    ensures { result ≡ begins_line text.now (tree_of element.now) }
-{
-    match shape_of(element) {
-        Shape::Leaf(token) => follows_line_feed(text, token),
-        Shape::Nest { left, .. } => follows_line_feed(text, left),
     }
 }
 

@@ -6,19 +6,19 @@ ghost use Rattle.std.specs.List.{All};
 ghost use Rattle.std.specs.Str.{IsUtf8};
 ghost use Rattle.std.specs.Str.Lossy.{utf8_lossy};
 ghost use Rattle.plugin_messages.specs.Writable.{IsLocationWritable, IsMacroWritable, IsSyntaxWritable, IsRequestWritable};
-ghost use Rattle.expand_top.specs.Form.{text_at};
-ghost use Rattle.expand_top.specs.Source.{form_seen};
+ghost use Rattle.expand_top.specs.Elements.{text_at};
 ghost use Rattle.expand_top.specs.Site.{declaration_for, plugin_for, IsStartable, site_at, site_by, site_of_use, site_of, HasPlugin, key_of, last_part, file_id, location_of, target_of, syntax_of, request_of, sent_for};
 
-use crate::elements::{front, part};
-use crate::form::SourceForm;
-use crate::line::{Declaration, MacroUse};
+use crate::declarations::Declaration;
+use crate::elements::{front, text_at};
+use crate::reading::SourceForm;
 use plugin_frames::header;
 use plugin_messages::{
     HostMessage, Location, MacroRef, Parts, Request, Syntax, SyntaxKind, host_of, host_payload,
 };
 use std::alloc::{AllocError, Global};
 use swift_base::{Plugin, Span, Text, line_column};
+use swift_tree::MacroUse;
 use unique_names::{Key, KeyStep, Role};
 
 /// What stands at the use of a source.
@@ -32,12 +32,6 @@ pub enum Site {
     NoPlugin(MacroUse, Declaration),
     /// The module's plug-in is asked.
     Asks(MacroUse, Declaration),
-}
-
-fn text_at<'a>(text: &'a [u8], span: Span) -> &'a [u8]
-    ensures { result.now ≡ text_at text.now span }
-{
-    part(text, span.start, span.end)
 }
 
 fn declaration_for(
@@ -89,13 +83,13 @@ pub fn command_for<'a>(module_name: &[u8], plugins: &'a [Plugin]) -> &'a str
 /// What stands at the use of a source.
 #[tactic(auto, unfolding(crate::specs::Site::site_of))]
 pub fn site_of(text: &[u8], plugins: &[Plugin], form: &SourceForm) -> Site
-    ensures site { result ≡ site_of text.now plugins.now (form_seen form.now) }
+    ensures site { result ≡ site_of text.now plugins.now form.now }
     ensures served { HasPlugin text.now plugins.now result }
 {
     let Some(macro_use) = form.macro_use else {
         return Site::Nothing;
     };
-    let Some(declaration) = declaration_for(text, macro_use, &form.declarations) else {
+    let Some(declaration) = declaration_for(text, macro_use, form.declarations.items()) else {
         return Site::Unknown(macro_use);
     };
     match plugin_for(text_at(text, declaration.module_name), plugins) {

@@ -1,106 +1,87 @@
 // What a reply puts in the place of a use.
-ghost use Rattle.std.specs.Prelude.{◌≡◌, ◌≤◌, ◌||◌, ◌++◌, ◌∷◌, IfOk, length, map, option_map, Some, slice_range, take, drop, codes};
-ghost use Rattle.std.specs.List.{list_any};
-ghost use Rattle.swift_lexer.specs.Trees.{tree_of};
-ghost use Rattle.expand_top.specs.Form.{any_marked};
-ghost use Rattle.expand_top.specs.Source.{HasElements};
-ghost use Rattle.expand_top.specs.Answer.{start_of, end_of, end_of_last, is_semicolon, expression_in, expanded, IsSplice};
+ghost use Rattle.std.specs.Prelude.{◌≡◌, ◌<◌, ◌&&◌, ◌++◌, ◌∷◌, [], IfOk, length, take, drop, codes};
+ghost use Rattle.swift_tree.specs.Outlines.{outline_of};
+ghost use Rattle.expand_top.specs.Reading.{attribute_places};
+ghost use Rattle.expand_top.specs.Answer.{is_empty, splice_if, splice_by, splice_of, IsNear, expanded};
 
-use crate::elements::{Mark, Shape, behind, front, part, row_is_marked, shape_of, spells};
-use crate::form::elements_of;
-use crate::line::MacroUse;
+use crate::declarations::Declaration;
+use crate::elements::{behind, front, text_at};
+use crate::places::put_attribute_places;
+use decl_parser::{ParseFault, parse_expression};
 use std::alloc::{AllocError, Global};
-use swift_lexer::Element;
+use swift_base::{Refusal, Text};
+use swift_tree::{MacroUse, Outline};
 
-/// How many bytes the text of a reply may have.
-pub const LARGEST_REPLY: usize = 4_194_304;
+/// What is put in the place of a use.
+#[derive(Debug, Drop)]
+pub enum Splice {
+    /// Nothing yet: the reply has a use or an attribute of a declared macro.
+    NotYet,
+    /// Nothing: the reply is no expression; this is its first fault.
+    Refused(ParseFault),
+    Bytes(Text),
+}
 
-fn start_of(element: &Element) -> u32
-    ensures { result ≡ start_of (tree_of element.now) }
+// Whether the reply has neither a use nor an attribute of a declared macro.
+fn is_plain(
+    alloc: Global,
+    text: &[u8],
+    declarations: &[Declaration],
+    reply: &[u8],
+    outline: &Outline,
+) -> Result<bool, AllocError>
+    ensures { IfOk result (λ plain. plain ≡ (is_empty outline.now.uses && is_empty (attribute_places reply.now text.now declarations.now outline.now.locals))) }
 {
-    match shape_of(element) {
-        Shape::Leaf(token) => token.start,
-        Shape::Nest { left, .. } => left.start,
+    let mut places = Vec::new(alloc);
+    put_attribute_places(
+        reply,
+        text,
+        declarations,
+        outline.locals.items(),
+        &mut places,
+    )?;
+    Ok(is_empty(outline.uses.items()) && is_empty(&places))
+}
+
+fn is_empty<X>(items: &[X]) -> bool
+    ensures { result ≡ is_empty items.now }
+{
+    match items {
+        [] => true,
+        [_, ..] => false,
     }
 }
 
-fn end_of(element: &Element) -> u32
-    ensures { result ≡ end_of (tree_of element.now) }
+fn splice_by(
+    alloc: Global,
+    text: &[u8],
+    declarations: &[Declaration],
+    reply: &[u8],
+    outline: &Outline,
+) -> Result<Splice, AllocError>
+    ensures { IfOk result (λ splice. splice ≡ splice_by text.now declarations.now reply.now (Ok (outline_of outline.now))) }
 {
-    match shape_of(element) {
-        Shape::Leaf(token) => token.end,
-        Shape::Nest { right, .. } => right.end,
+    if !is_plain(alloc, text, declarations, reply, outline)? {
+        return Ok(Splice::NotYet);
     }
+    Ok(Splice::Bytes(Text::from_bytes(alloc, text_at(reply, outline.inside))?))
 }
 
-fn is_semicolon(text: &[u8], element: &Element) -> bool
-    ensures { result ≡ is_semicolon text.now (tree_of element.now) }
+/// What of a reply's text is put in the place of the use, in a source with these macros.
+#[tactic(auto, unfolding(crate::specs::Answer::splice_of))]
+pub fn splice_of(
+    alloc: Global,
+    text: &[u8],
+    declarations: &[Declaration],
+    reply: &[u8],
+) -> Result<Splice, AllocError>
+    ensures splice { IfOk result (λ splice. splice ≡ splice_of text.now declarations.now reply.now) }
+    ensures near { IfOk result (IsNear reply.now) }
 {
-    match shape_of(element) {
-        Shape::Leaf(token) => spells(text, token, b";"),
-        Shape::Nest { .. } => false,
-    }
-}
-
-fn any_semicolon(text: &[u8], elements: &[Element]) -> bool
-    ensures { result ≡ list_any (is_semicolon text.now) (map tree_of elements.now) }
-{
-    let mut rest = elements;
-    'elements: while let [first, others @ ..] = rest {
-        if is_semicolon(text, first) {
-            return true;
-        }
-        rest = others;
-    }
-    false
-}
-
-fn end_of_last(end: u32, elements: &[Element]) -> u32
-    ensures { result ≡ end_of_last end (map tree_of elements.now) }
-{
-    let mut last = end;
-    let mut rest = elements;
-    'elements: while let [first, others @ ..] = rest {
-        last = end_of(first);
-        rest = others;
-    }
-    last
-}
-
-#[tactic(auto, unfolding(crate::specs::Answer::expression_in))]
-fn expression_in<'a>(text: &'a [u8], elements: &[Element]) -> Option<&'a [u8]>
-    ensures { option_map (λ s. s.now) result ≡ expression_in text.now (map tree_of elements.now) }
-{
-    match elements {
-        [] => None,
-        [first, others @ ..] => {
-            if is_refused(text, elements) {
-                return None;
-            }
-            Some(part(text, start_of(first), end_of_last(end_of(first), others)))
-        }
-    }
-}
-
-fn is_refused(text: &[u8], elements: &[Element]) -> bool
-    ensures { result ≡ (list_any (is_semicolon text.now) (map tree_of elements.now) || any_marked text.now Mark.Site (map tree_of elements.now)) }
-{
-    any_semicolon(text, elements) || row_is_marked(text, Mark::Site, elements)
-}
-
-/// What of a reply's text is put in the place of the use.
-pub fn splice_of(alloc: Global, reply: &[u8]) -> Result<Option<Vec<u8>>, AllocError>
-    ensures { IfOk result (λ splice. IsSplice reply.now (option_map (λ v. v.items) splice)) }
-{
-    if reply.len() > LARGEST_REPLY {
-        return Ok(None);
-    }
-    let Ok(elements) = elements_of(alloc, reply)? else {
-        return Ok(None);
-    };
-    match expression_in(reply, &elements) {
-        Some(text) => Ok(Some(Vec::from_slice(alloc, text)?)),
-        None => Ok(None),
+    match parse_expression(alloc, reply) {
+        Ok(outline) => splice_by(alloc, text, declarations, reply, &outline),
+        Err(Refusal::Memory) => Err(AllocError),
+        Err(Refusal::Fault(fault)) => Ok(Splice::Refused(fault)),
     }
 }
 

@@ -1,4 +1,5 @@
 use crate::{Ended, Stop, run};
+use plugin_frames::header;
 use std::alloc::{AllocError, Global};
 use std::process::Abort;
 use std::test::Fail;
@@ -38,13 +39,13 @@ fn joined(alloc: Global, parts: &[&str]) -> Result<String, AllocError> {
     Ok(whole)
 }
 
-// The words between spaces, `r.swift` with a content, one process that gives some bytes in pieces, and an `out`
-// whose calls in `failing` fail.
+// The words between spaces, the file that they name with a content, one process that gives some bytes in pieces,
+// and an `out` whose calls in `failing` fail.
 fn run_on(
     rt: HostRuntime,
     words: &str,
     content: Option<&str>,
-    gives: Option<(&str, Vec<u32>)>,
+    gives: Option<(&[u8], Vec<u32>)>,
     failing: Vec<u64>,
 ) -> Result<Ran, AllocError> {
     let alloc = rt.alloc();
@@ -53,14 +54,14 @@ fn run_on(
         list.push(String::from_str(alloc, word)?)?;
     }
     let mut contents = Vec::new(alloc);
-    if let Some(content) = content {
-        contents.push((text(alloc, "r.swift")?, text(alloc, content)?))?;
+    if let (Some(content), Some(name)) = (content, list.get(1)) {
+        contents.push((text(alloc, name.as_str())?, text(alloc, content)?))?;
     }
     let mut files = MemFiles::new(alloc, contents, Vec::new(alloc));
     let mut links = Vec::new(alloc);
     if let Some((bytes, pieces)) = gives {
         links.push(MemScript {
-            gives: text(alloc, bytes)?,
+            gives: Text::from_bytes(alloc, bytes)?,
             pieces: Listed::from_vec(pieces),
             failing_reads: Listed::from_vec(Vec::new(alloc)),
             failing_writes: Listed::from_vec(Vec::new(alloc)),
@@ -92,7 +93,7 @@ fn empty_file_prints_nothing(rt: HostRuntime) -> Result<(), Fail> {
 #[test]
 fn file_without_uses_stays(rt: HostRuntime) -> Result<(), Fail> {
     let content =
-        "/* a /* b */ c */ let t = #\"a \"b\" \\(x)\"# // d\nlet m = \"\"\"\n  \"q\" \\(f(1))\n  \"\"\"\r\nlet é = (`x`)\n";
+        "/* a /* b */ c */ let t = #\"a \"b\" \\(x)\"# // d\nlet m = \"\"\"\n  \"q\" \\(f(1))\n  \"\"\"\r\nlet é = (`x`)\n@a.b public final class C<T>: D, E where T: F {\n  var x: Int { get { 1 } set { y = newValue } }\n  var z = 2 { didSet { print(z) } }; let w = [1: \"a\"]\n  init?(_ v: T) throws { self.v = v }\n  func f(a: Int) async -> Int { if a > 1 { return a }; return { $0 }(2) }\n}\nenum G { case a, b(Int) }\n";
     let none = Vec::new(rt.alloc());
     let ran = run_on(rt, "expand r.swift", Some(content), None, none)?;
     expect(&rt, &ran, 0, content, "");
@@ -110,7 +111,13 @@ fn exchange(rt: HostRuntime, piece: u32) -> Result<Ran, AllocError> {
     }
     let words = "expand r.swift SampleMacros=plug";
     let none = Vec::new(alloc);
-    run_on(rt, words, Some(&source), Some((&gives, pieces)), none)
+    run_on(
+        rt,
+        words,
+        Some(&source),
+        Some((gives.as_bytes(), pieces)),
+        none,
+    )
 }
 
 fn expanded(alloc: Global) -> Result<String, AllocError> {
@@ -196,7 +203,7 @@ fn first_write_fails(rt: HostRuntime) -> Result<(), Fail> {
     let alloc = rt.alloc();
     let source = joined(alloc, &[DECLARATION, "let r = #stringify(a + b)\n"])?;
     let gives = joined(alloc, &[GREETED, REPLIED])?;
-    let script = Some((gives.as_str(), Vec::new(alloc)));
+    let script = Some((gives.as_bytes(), Vec::new(alloc)));
     let words = "expand r.swift SampleMacros=plug";
     let ran = run_on(rt, words, Some(&source), script, [0].to_vec(alloc)?)?;
     expect(&rt, &ran, 4, "", "");
@@ -204,57 +211,21 @@ fn first_write_fails(rt: HostRuntime) -> Result<(), Fail> {
 }
 
 #[test]
-fn refusals_of_a_source(rt: HostRuntime) -> Result<(), Fail> {
+fn refusals_of_a_use(rt: HostRuntime) -> Result<(), Fail> {
     let alloc = rt.alloc();
     let source = joined(alloc, &[DECLARATION, "let r = #stringify(a + b)\n"])?;
     let cases = [
-        // no_plugin_for_the_module
         (
             "expand r.swift",
             source.as_str(),
             "r.swift:2:9: error: no plug-in for module 'SampleMacros'\n",
         ),
-        // no_macro_of_that_name
         (
             "expand r.swift",
             "let r = #nope(1)\n",
             "r.swift:1:9: error: no macro named 'nope'\n",
         ),
-        // form_not_built
-        (
-            "expand r.swift",
-            "struct S {}\n",
-            "r.swift:1:1: error: this form is not built yet\n",
-        ),
-        (
-            "expand r.swift",
-            "let r = await\n",
-            "r.swift:1:1: error: this form is not built yet\n",
-        ),
-        (
-            "expand r.swift",
-            "let r = (\n1)\n",
-            "r.swift:1:1: error: this form is not built yet\n",
-        ),
-        // unclosed_bracket
-        (
-            "expand r.swift",
-            "struct S {",
-            "r.swift:1:10: error: this bracket is not closed\n",
-        ),
-        // use_in_an_interpolation
-        (
-            "expand r.swift",
-            "let s = \"\\(#p(1))\"\n",
-            "r.swift:1:12: error: a macro use in an interpolation is left out\n",
-        ),
-        // a name that is kept for expansions
-        (
-            "expand r.swift",
-            "let r = 1\nlet s = ($sX1)\n",
-            "r.swift:2:10: error: names that begin with $sX are reserved\n",
-        ),
-        // no_script_left
+        // There is no script left, so the start fails.
         (
             "expand r.swift SampleMacros=plug",
             source.as_str(),
@@ -272,8 +243,99 @@ fn refusals_of_a_source(rt: HostRuntime) -> Result<(), Fail> {
     Ok(())
 }
 
+// The source s.swift with this content, where no process is there to be asked.
+fn on_source(rt: HostRuntime, content: &str) -> Result<Ran, AllocError> {
+    let none = Vec::new(rt.alloc());
+    let words = "expand s.swift SampleMacros=plug";
+    run_on(rt, words, Some(content), None, none)
+}
+
+fn expect_refused(rt: &impl Abort, ran: &Ran, line: &str) {
+    expect(rt, ran, 1, "", line);
+    assert_eq!(rt; ran.ended.unstarted.len(), 0);
+}
+
+#[test]
+fn unclosed_bracket(rt: HostRuntime) -> Result<(), Fail> {
+    let line = "s.swift:1:10: error: this bracket is not closed\n";
+    let ran = on_source(rt, "struct S {")?;
+    expect_refused(&rt, &ran, line);
+    Ok(())
+}
+
+#[test]
+fn missing_name(rt: HostRuntime) -> Result<(), Fail> {
+    let line = "s.swift:1:1: error: a name was expected\n";
+    let ran = on_source(rt, "struct\n")?;
+    expect_refused(&rt, &ran, line);
+    Ok(())
+}
+
+#[test]
+fn dangling_operator(rt: HostRuntime) -> Result<(), Fail> {
+    let line = "s.swift:1:11: error: the declaration does not end here\n";
+    let ran = on_source(rt, "let a = 1 +\n")?;
+    expect_refused(&rt, &ran, line);
+    Ok(())
+}
+
+#[test]
+fn use_in_an_interpolation(rt: HostRuntime) -> Result<(), Fail> {
+    let line = "s.swift:1:12: error: a macro use in an interpolation is left out\n";
+    let ran = on_source(rt, "let s = \"\\(#p(1))\"\n")?;
+    expect_refused(&rt, &ran, line);
+    Ok(())
+}
+
+#[test]
+fn names_of_expansions_are_reserved(rt: HostRuntime) -> Result<(), Fail> {
+    let line = "s.swift:2:10: error: names that begin with $sX are reserved\n";
+    let ran = on_source(rt, "let r = 1\nlet s = ($sX1)\n")?;
+    expect_refused(&rt, &ran, line);
+    Ok(())
+}
+
+// What stands behind the declaration of `stringify`, and where it is not expanded yet.
+#[test]
+fn places_that_are_not_built_yet(rt: HostRuntime) -> Result<(), Fail> {
+    let alloc = rt.alloc();
+    let cases = [
+        // two uses, one of them in an attribute's argument
+        ("let r = #stringify(1)\nlet s = #stringify(2)\n", "3:9"),
+        (
+            "@A(#stringify(1)) class C { let s = #stringify(2) }\n",
+            "2:37",
+        ),
+        // a use in a declaration's place
+        ("#stringify(1)\n", "2:1"),
+        ("struct S {\n  #nope\n}\n", "3:3"),
+        // an attribute with the macro's name
+        ("@stringify struct S {}\n", "2:1"),
+        ("struct S {\n  @A @stringify var x = 1\n}\n", "3:6"),
+        ("func f() {\n  @stringify let x = 1\n}\n", "3:3"),
+        // the macro again, and a macro of another form
+        (DECLARATION, "2:1"),
+        (
+            "let a = 1; @freestanding(declaration) macro m() = #externalMacro(module: \"M\", type: \"T\")\n",
+            "2:12",
+        ),
+        // the first of them
+        ("@stringify struct S {}\n#stringify(1)\n", "2:1"),
+    ];
+    for (content, place) in cases {
+        let content = joined(alloc, &[DECLARATION, content])?;
+        let line = joined(
+            alloc,
+            &["s.swift:", place, ": error: this form is not built yet\n"],
+        )?;
+        let ran = on_source(rt, &content)?;
+        expect_refused(&rt, &ran, &line);
+    }
+    Ok(())
+}
+
 // The expansion of `stringify` where the process gives these bytes.
-fn expand_over(rt: HostRuntime, gives: &str) -> Result<Ran, AllocError> {
+fn expand_over(rt: HostRuntime, gives: &[u8]) -> Result<Ran, AllocError> {
     let alloc = rt.alloc();
     let source = joined(alloc, &[DECLARATION, "let r = #stringify(a + b)\n"])?;
     let script = Some((gives, Vec::new(alloc)));
@@ -298,7 +360,7 @@ fn bad_replies_are_no_reply(rt: HostRuntime) -> Result<(), Fail> {
         no_greeting.as_str(),
         greeted_twice.as_str(),
     ] {
-        let ran = expand_over(rt, gives)?;
+        let ran = expand_over(rt, gives.as_bytes())?;
         expect(&rt, &ran, 1, "", no_reply);
     }
     Ok(())
@@ -313,8 +375,92 @@ fn replies_without_a_text_or_with_a_diagnostic_wait(rt: HostRuntime) -> Result<(
     let line = "r.swift:2:9: error: this form is not built yet\n";
     for reply in [no_text, warned] {
         let gives = joined(alloc, &[GREETED, reply])?;
+        let ran = expand_over(rt, gives.as_bytes())?;
+        expect(&rt, &ran, 1, "", line);
+    }
+    Ok(())
+}
+
+// What a process gives that answers with this text.
+fn answers(alloc: Global, reply: &str) -> Result<Vec<u8>, AllocError> {
+    let before = "{\"expandMacroResult\":{\"diagnostics\":[],\"expandedSource\":\"";
+    let payload = joined(alloc, &[before, reply, "\"}}"])?;
+    let mut gives = Vec::from_slice(alloc, GREETED.as_bytes())?;
+    gives.extend_from_slice(&header(payload.len() as u64))?;
+    gives.extend_from_slice(payload.as_bytes())?;
+    Ok(gives)
+}
+
+#[test]
+fn refused_replies(rt: HostRuntime) -> Result<(), Fail> {
+    let alloc = rt.alloc();
+    let cases = [
+        (
+            "a + )",
+            "$sX145e0_E.swift:1:5: error: this bracket was not opened\n",
+        ),
+        (
+            "(a",
+            "$sX145e0_E.swift:1:1: error: this bracket is not closed\n",
+        ),
+        (
+            "a\\n; b",
+            "$sX145e0_E.swift:2:1: error: an expression was expected\n",
+        ),
+        ("", "$sX145e0_E.swift:1:1: error: the reply is empty\n"),
+        // a use, and an attribute of a declared macro
+        (
+            "#stringify(1)",
+            "r.swift:2:9: error: this form is not built yet\n",
+        ),
+        (
+            "{ @stringify x in x }",
+            "r.swift:2:9: error: this form is not built yet\n",
+        ),
+    ];
+    for (reply, line) in cases {
+        let gives = answers(alloc, reply)?;
         let ran = expand_over(rt, &gives)?;
         expect(&rt, &ran, 1, "", line);
+        assert_eq!(rt; ran.ended.links.len(), 1);
+    }
+    Ok(())
+}
+
+#[test]
+fn reply_is_put_in_from_its_first_token_to_its_last(rt: HostRuntime) -> Result<(), Fail> {
+    let alloc = rt.alloc();
+    let whole = joined(
+        alloc,
+        &[DECLARATION, "let r = (@b.stringify /* c */ $sX1)\n"],
+    )?;
+    let gives = answers(alloc, " // a\\n@b.stringify /* c */ $sX1 ")?;
+    let ran = expand_over(rt, &gives)?;
+    expect(&rt, &ran, 0, &whole, "");
+    Ok(())
+}
+
+// The use may stand anywhere, and the declaration too, on several lines.
+#[test]
+fn use_deep_inside(rt: HostRuntime) -> Result<(), Fail> {
+    let alloc = rt.alloc();
+    let declaration =
+        "@freestanding(expression)\nmacro p(_: Int) -> Int\n  = #externalMacro(\n    module: \"SampleMacros\", type: \"P\"\n  )\n";
+    let cases = [
+        ("struct S {\n  func f() {\n    g(", ")\n  }\n}\n"),
+        ("let c = { x in ", " }\n"),
+        ("@A(", ") class C {}\n"),
+        ("var x: Int {\n  get { ", " }\n}\n"),
+    ];
+    for (before, behind) in cases {
+        let content = joined(alloc, &[before, "#p(#p(1))", behind, declaration])?;
+        let whole = joined(alloc, &[before, "(2)", behind, declaration])?;
+        let gives = answers(alloc, "2")?;
+        let script = Some((gives.as_slice(), Vec::new(alloc)));
+        let none = Vec::new(alloc);
+        let words = "expand s.swift SampleMacros=plug";
+        let ran = run_on(rt, words, Some(&content), script, none)?;
+        expect(&rt, &ran, 0, &whole, "");
     }
     Ok(())
 }
