@@ -547,6 +547,61 @@ fn texts_are_refused(rt: HostRuntime) -> Result<(), Fail> {
     Ok(())
 }
 
+/// A type whose members have comments, strings and operators in them.
+const MEMBERS: &[u8] =
+    b"/* a /* b */ c */ struct S {\n  let t = #\"a \"b\" \\(x)\"#\n  let m = \"\"\"\n    \"q\" \\(f(1))\n    \"\"\"\n  var o: Int?\n  var p = a\n    ? b\n    : c\n  func f() { guard let x = y else { return } }\n}\n";
+
+#[test]
+fn outline_prints_its_text(rt: HostRuntime) -> Result<(), Fail> {
+    let outline = parse_file(rt.alloc(), MEMBERS)?;
+    assert_eq!(rt; outline.print(rt.alloc())?.as_slice(), MEMBERS);
+    let members = match outline.items.first() {
+        Some(
+            Item {
+                block: Some(block),
+                ..
+            },
+        ) => block.members.len(),
+        _ => 0,
+    };
+    assert_eq!(rt; members, 5);
+    Ok(())
+}
+
+#[test]
+fn names_of_a_case(rt: HostRuntime) -> Result<(), Fail> {
+    let outline = parse_items(rt.alloc(), b"case a, b(Int)")?;
+    assert_eq!(rt; outline.items.len(), 1);
+    let wanted = [Span { start: 5, end: 6 }, Span { start: 8, end: 9 }];
+    assert_eq!(rt; outline.items[0].names.items(), wanted.as_slice());
+    Ok(())
+}
+
+#[test]
+fn fragments(rt: HostRuntime) -> Result<(), Fail> {
+    assert_eq!(rt;
+        parse_attributes(rt.alloc(), b"@A @B(1)")?
+            .attrs
+            .items()
+            .len(),
+        2
+    );
+    assert_eq!(rt;
+        parse_accessors(rt.alloc(), b"get { 1 }")?
+            .accessors
+            .items()
+            .len(),
+        1
+    );
+    let refusal = match parse_expression(rt.alloc(), b"") {
+        Ok(_) => None,
+        Err(refusal) => Some(refusal),
+    };
+    let kind = ParseKind::Empty;
+    assert_eq!(rt; refusal, Some(Refusal::Fault(ParseFault { at: 0, kind })));
+    Ok(())
+}
+
 /// A source with its members; `show` lists the offsets of their first tokens.
 const COUNTER: &[u8] =
     b"import Foundation\n\n/// A counter.\n@Watch\nfinal class Counter {\n  var count: Int = 0\n  func bump() { count += 1 }\n}\n";

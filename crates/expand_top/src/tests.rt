@@ -93,6 +93,16 @@ fn empty_file_prints_nothing(rt: HostRuntime) -> Result<(), Fail> {
 #[test]
 fn file_without_uses_stays(rt: HostRuntime) -> Result<(), Fail> {
     let content =
+        "/* a /* b */ c */ struct S {\n  let t = #\"a \"b\" \\(x)\"#\n  let m = \"\"\"\n    \"q\" \\(f(1))\n    \"\"\"\n  var o: Int?\n  var p = a\n    ? b\n    : c\n  func f() { guard let x = y else { return } }\n}\n";
+    let ran = run_on(
+        rt,
+        "expand r.swift",
+        Some(content),
+        None,
+        Vec::new(rt.alloc()),
+    )?;
+    expect(&rt, &ran, 0, content, "");
+    let content =
         "/* a /* b */ c */ let t = #\"a \"b\" \\(x)\"# // d\nlet m = \"\"\"\n  \"q\" \\(f(1))\n  \"\"\"\r\nlet é = (`x`)\n@a.b public final class C<T>: D, E where T: F {\n  var x: Int { get { 1 } set { y = newValue } }\n  var z = 2 { didSet { print(z) } }; let w = [1: \"a\"]\n  init?(_ v: T) throws { self.v = v }\n  func f(a: Int) async -> Int { if a > 1 { return a }; return { $0 }(2) }\n}\nenum G { case a, b(Int) }\n";
     let none = Vec::new(rt.alloc());
     let ran = run_on(rt, "expand r.swift", Some(content), None, none)?;

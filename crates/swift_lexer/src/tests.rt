@@ -147,6 +147,19 @@ fn reads_tokens(rt: HostRuntime) {
     }
 }
 
+#[test]
+fn lexes_a_pound_word(rt: HostRuntime) {
+    let wanted = [
+        (Class::Word, 0, 1),
+        (Class::Oper, 1, 2),
+        (Class::Pound, 2, 4),
+    ];
+    match lexed(&rt, rt.alloc(), b"a+#b") {
+        Ok(tokens) => assert!(rt; are_chained(&tokens, &wanted)),
+        Err(_) => assert!(rt; false),
+    }
+}
+
 /// Whether these are the classes and places of the tokens, and each trivia begins at the token before.
 fn are_chained(tokens: &[Token], wanted: &[(Class, u32, u32)]) -> bool {
     let mut trivia = 0;

@@ -26,8 +26,8 @@ items-returns-then-head_of-eq0 n c =
     let none : (head_of (drop at marks) == 0) ≡ true = ap (λ h. h == 0) (sym (ap head_of rest) ∙ sym c.head_of.ensures.value ∙ c.if-head_of-eq0.true) in
     subst (λ r. Refuses r (λ outcome. outcome ≡ items_of_list c.args.place text (forest_of elements))) (sym c.fault.ensures)
     (ap (λ a. Err (fault a NotADeclaration)) (c.start_of.ensures ∙ ap start_of rest)
-        ∙ ap (prefixed (map item_of c.items.items.items)) (no_declaration c.args.place marks (insides text (forest_of elements)) (members text (forest_of elements)) at within no_semicolon none)
-        ∙ c.items.invariant ∙ list_is c.args.place text (forest_of elements) marks c.in_ok-marks.ensures)
+    ∙ ap (prefixed (map item_of c.items.items.items)) (no_declaration c.args.place marks (insides text (forest_of elements)) (members text (forest_of elements)) at within no_semicolon none)
+    ∙ c.items.invariant ∙ list_is c.args.place text (forest_of elements) marks c.in_ok-marks.ensures)
 
 pub items-item_at-requires : goal.items-item_at-requires
 items-item_at-requires n c =
@@ -43,7 +43,7 @@ items-item_at-requires n c =
     let list : c.upto.result.now ≡ take (at + count) marks = c.upto.ensures ∙ ap (take (at + count)) c.deref-else-head_of-eq0.ensures.value in
     let measure : 3 * forest_size (forest_of elements) + 2 ≡ n = c.decreases in
     let falls : 3 * forest_size (forest_of c.upto-else-head_of-eq0.result.now) + 1 < n =
-        omega (arith, measure, ap (λ es. forest_size (forest_of es)) own, size_take count (drop at elements), size_drop at elements) in
+    omega (arith, measure, ap (λ es. forest_size (forest_of es)) own, size_take count (drop at elements), size_drop at elements) in
     (falls, omega (arith, ap length list, within_front at count marks within))
 
 pub items-returns-in_err-item : goal.items-returns-in_err-item
@@ -63,7 +63,7 @@ items-returns-in_err-item n c =
     let next : c.behind-else-head_of-eq0.result.now ≡ drop (at + count) marks = c.behind-else-head_of-eq0.ensures ∙ ap (drop (at + count)) c.deref-else-head_of-eq0-2.ensures.value in
     let own : c.upto-else-head_of-eq0.result.now ≡ take count (drop at elements) = c.upto-else-head_of-eq0.ensures ∙ ap (take count) c.behind.ensures in
     let one : item_at c.args.place c.upto.result.now at c.behind-else-head_of-eq0.result.now (insides text (forest_of c.upto-else-head_of-eq0.result.now)) (members text (forest_of c.upto-else-head_of-eq0.result.now)) ≡ one_item c.args.place marks (insides text (forest_of elements)) (members text (forest_of elements)) at =
-        (λ i. item_at c.args.place (list i) at (next i) (insides text (forest_of (own i))) (members text (forest_of (own i)))) ∙ one_item_is c.args.place marks text elements at count counted in
+    (λ i. item_at c.args.place (list i) at (next i) (insides text (forest_of (own i))) (members text (forest_of (own i)))) ∙ one_item_is c.args.place marks text elements at count counted in
     let p = err_from_is_err_and c.from_residual-in_err-item.result c.from_residual-in_err-item.ensures.1 in
     rw (p.1, p.2) (refused_on c.in_err-item.field-0.0 (item_at c.args.place c.upto.result.now at c.behind-else-head_of-eq0.result.now (insides text (forest_of c.upto-else-head_of-eq0.result.now)) (members text (forest_of c.upto-else-head_of-eq0.result.now))) (items_of_list c.args.place text (forest_of elements))
     (λ found read.
@@ -88,7 +88,7 @@ items-items-preserved n c =
     let next : c.behind-else-head_of-eq0.result.now ≡ drop (at + count) marks = c.behind-else-head_of-eq0.ensures ∙ ap (drop (at + count)) c.deref-else-head_of-eq0-2.ensures.value in
     let own : c.upto-else-head_of-eq0.result.now ≡ take count (drop at elements) = c.upto-else-head_of-eq0.ensures ∙ ap (take count) c.behind.ensures in
     let one : item_at c.args.place c.upto.result.now at c.behind-else-head_of-eq0.result.now (insides text (forest_of c.upto-else-head_of-eq0.result.now)) (members text (forest_of c.upto-else-head_of-eq0.result.now)) ≡ one_item c.args.place marks (insides text (forest_of elements)) (members text (forest_of elements)) at =
-        (λ i. item_at c.args.place (list i) at (next i) (insides text (forest_of (own i))) (members text (forest_of (own i)))) ∙ one_item_is c.args.place marks text elements at count counted in
+    (λ i. item_at c.args.place (list i) at (next i) (insides text (forest_of (own i))) (members text (forest_of (own i)))) ∙ one_item_is c.args.place marks text elements at count counted in
     let positive : 0 < count = omega (arith, counted, count_positive (drop at marks) some) in
     ap (λ l. prefixed (map item_of l) (rest_from c.args.place marks (insides text (forest_of elements)) (members text (forest_of elements)) (at + count))) c.in_ok-add.ensures
     ∙ item_more c.args.place marks (insides text (forest_of elements)) (members text (forest_of elements)) c.items.items.items c.in_ok-item.item at count within no_semicolon (not_zero (head_of (drop at marks)) some) counted positive (c.in_ok-item.ensures ∙ one)

@@ -37,7 +37,7 @@ pub returns : goal.returns
 returns c =
     let text = c.args.text.now in
     let whole : by_shape text c.args.shape (forest_of c.deref-3.result.now) ≡ outline text c.args.shape =
-        ap (λ es. by_shape text c.args.shape (forest_of es)) c.deref-3.ensures.value
-        ∙ outline_read text c.args.shape c.in_ok-tokens.tokens.items (forest_of c.in_ok-elements.elements.items) c.in_ok-tokens.ensures.tokens
-        (c.in_ok-elements.ensures.groups ∙ ap (read_groups text) c.deref.ensures.value) (c.in_ok-elements.ensures.held ∙ c.deref.ensures.value) (c.in_ok-allowed.ensures ∙ ap (allowed text c.args.shape) c.deref-2.ensures.value) in
+    ap (λ es. by_shape text c.args.shape (forest_of es)) c.deref-3.ensures.value
+    ∙ outline_read text c.args.shape c.in_ok-tokens.tokens.items (forest_of c.in_ok-elements.elements.items) c.in_ok-tokens.ensures.tokens
+    (c.in_ok-elements.ensures.groups ∙ ap (read_groups text) c.deref.ensures.value) (c.in_ok-elements.ensures.held ∙ c.deref.ensures.value) (c.in_ok-allowed.ensures ∙ ap (allowed text c.args.shape) c.deref-2.ensures.value) in
     subst (λ x. Answers outline_of c.by_shape.result (λ outcome. outcome ≡ x)) whole c.by_shape.ensures
