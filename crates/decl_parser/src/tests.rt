@@ -79,6 +79,7 @@ impl<'a> Sketch<'a> {
         self.put(b")")
     }
 
+    #[cycle(sketch)]
     fn block(&mut self, block: &Block) -> Result<(), AllocError> {
         match block.shape {
             BlockShape::Members => {
@@ -91,6 +92,7 @@ impl<'a> Sketch<'a> {
         }
     }
 
+    #[cycle(sketch)]
     fn item(&mut self, item: &Item) -> Result<(), AllocError> {
         self.put(kind_text(item))?;
         self.spans(b" ", item.names.items())?;
@@ -110,6 +112,7 @@ impl<'a> Sketch<'a> {
         }
     }
 
+    #[cycle(sketch)]
     fn items(&mut self, items: &[Item]) -> Result<(), AllocError> {
         let mut mark: &[u8] = b"";
         for item in items {
