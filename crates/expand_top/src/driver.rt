@@ -108,13 +108,8 @@ fn refused(alloc: Global, name: &str, text: &[u8], fault: ParseFault) -> Result<
 fn too_large(alloc: Global, name: &str) -> Result<Output, AllocError>
     ensures { IfOk result (λ output. output_seen output ≡ refuses name.now 1 1 too_large) }
 {
-    refuses(
-        alloc,
-        name.as_bytes(),
-        1,
-        1,
-        fault_text(ParseKind::SourceTooLarge),
-    )
+    let text = fault_text(ParseKind::SourceTooLarge);
+    refuses(alloc, name.as_bytes(), 1, 1, text)
 }
 
 fn unread(alloc: Global, name: &str) -> Result<Output, AllocError>
@@ -145,14 +140,8 @@ fn expand_site<P: Starter>(
         (asking_of (map (link_seen P.Writer.seen P.Reader.seen) e.links.items) e.unstarted.items (P.seen starter.old) (P.seen starter.new)) (output_seen e.output)) }
 {
     let asked = ask_at(alloc, starter, name, plugins, text, site)?;
-    let output = site_output(
-        alloc,
-        name.as_bytes(),
-        text,
-        declarations,
-        site,
-        asked.outcome,
-    )?;
+    let outcome = asked.outcome;
+    let output = site_output(alloc, name.as_bytes(), text, declarations, site, outcome)?;
     let (links, unstarted) = (asked.links, asked.unstarted);
     Ok(Expansion {
         links,
