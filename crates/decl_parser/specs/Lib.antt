@@ -5,6 +5,7 @@ pub mod Faults
 pub mod Found
 pub mod Fragments
 pub mod Insides
+pub mod Laws
 pub mod Levels
 pub mod Outline
 pub mod Parts
