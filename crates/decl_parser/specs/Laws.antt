@@ -1,9 +1,10 @@
 -- Laws of outlines.
-use Rattle.std.specs.Prelude.{◌≡◌, ℕ, List, Ok}
+use Rattle.std.specs.Prelude.{◌≡◌, ℕ, List, length, Ok}
 use Rattle.swift_lexer.specs.declared.token.Token.{Token}
 use Rattle.swift_lexer.specs.Tiles.{TokensTile}
 use Rattle.swift_tree.specs.declared.outline.Shape.{Shape}
 use Rattle.swift_tree.specs.Outlines.{OutlineSeen}
+use Rattle.decl_parser.specs.Nesting.{UsesLie, ItemsLie}
 use Rattle.decl_parser.specs.Outline.{OutlineOutcome, IsOutline, read_tokens}
 
 -- a text has at most one outline or fault for a shape
@@ -21,3 +22,7 @@ OutlineKeepsTheText = (text : List ℕ) (shape : Shape) (seen : OutlineSeen) →
 -- an accepted text has tokens, which with their trivia tile it
 abbrev pub AcceptedTextsTile : Type 0
 AcceptedTextsTile = (text : List ℕ) (shape : Shape) (seen : OutlineSeen) → IsOutline text shape (Ok seen) → (tokens : List Token) × (read_tokens text ≡ Ok tokens) × TokensTile text tokens
+
+-- the declarations of an accepted text lie in it in order, and so do the uses of an expression and of accessors
+abbrev pub SpansInOrder : Type 0
+SpansInOrder = (text : List ℕ) (shape : Shape) (seen : OutlineSeen) → IsOutline text shape (Ok seen) → ItemsLie 0 seen.items (length text) × UsesLie 0 seen.uses (length text)

@@ -7,6 +7,7 @@ pub mod Fragments
 pub mod Insides
 pub mod Laws
 pub mod Levels
+pub mod Nesting
 pub mod Outline
 pub mod Parts
 pub mod Places

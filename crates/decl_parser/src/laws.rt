@@ -1,6 +1,6 @@
 // Laws of outlines: a call of each brings it in as a fact.
 
-ghost use Rattle.decl_parser.specs.Laws.{AcceptedTextsTile, OneOutline, OutlineKeepsTheText, SomeOutline};
+ghost use Rattle.decl_parser.specs.Laws.{AcceptedTextsTile, OneOutline, OutlineKeepsTheText, SomeOutline, SpansInOrder};
 
 /// A text has one outline for a shape or is refused with one fault.
 pub fn one_outline()
@@ -20,4 +20,9 @@ pub fn outline_keeps_the_text()
 /// The tokens of an accepted text and their trivia, joined, are the text.
 pub fn accepted_texts_tile()
     ensures { AcceptedTextsTile }
+{}
+
+/// Declarations, their blocks, the members of these and the macro uses lie in the text in order, nested or apart.
+pub fn spans_in_order()
+    ensures { SpansInOrder }
 {}
