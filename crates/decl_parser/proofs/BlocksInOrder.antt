@@ -23,7 +23,7 @@ use Rattle.decl_parser.proofs.Ordered.{InOrder, bounds, lies_take, lies_drop}
 use Rattle.decl_parser.proofs.Outcomes.{OkHolds, ok_then, ok_if, ok_at}
 
 pub mark_between : (from to : ℕ) (mark : Mark) (marks : List Mark) → InOrder from (mark ∷ marks) to → Between from to (span_of mark)
-mark_between from to mark marks lies = record { begins = lies.0; some = lies.1; ends = bounds mark.end to marks lies.2 }
+mark_between from to mark marks lies = record { begins = lies.0; some = lies.1.some; ends = bounds mark.end to marks lies.2 }
 
 abbrev pub BlockBetween : ℕ → ℕ → Option BlockAt → Type 0
 BlockBetween from to None = Unit {0}

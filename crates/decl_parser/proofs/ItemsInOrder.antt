@@ -79,7 +79,7 @@ assembled_fits from to [] next kind parts found inner some lies behind uses bloc
 assembled_fits from to (mark ∷ marks) next kind parts found inner some lies behind uses block =
     let end = end_of mark.end marks in
     let passed = lies_past end to next behind in
-    ((record { begins = lies.0; some = omega (arith, lies.1, bounds mark.end end marks lies.2); behind = passed.0; ends = passed.1; uses = uses }, block), refl)
+    ((record { begins = lies.0; some = omega (arith, lies.1.some, bounds mark.end end marks lies.2); behind = passed.0; ends = passed.1; uses = uses }, block), refl)
 
 module _ (place : Place) (list : List Mark) (at : ℕ) (next : List Mark) (insides : List Inside) (members : List MembersRead) (from to : ℕ) where
   pub item_fits : InOrder from (drop at list) (end_of from (drop at list)) → InOrder (end_of from (drop at list)) next to → Beside InsideLies (drop at list) insides → Beside MembersLie (drop at list) members

@@ -24,52 +24,52 @@ use Rattle.decl_parser.proofs.UsesInOrder.{InsideLies, found_in_lies}
 use Rattle.decl_parser.proofs.ItemsInOrder.{MembersLie, items_lie}
 
 -- the elements of a group lie between its brackets
-inner_in_order : (text : List ℕ) (left right : Token) (inner : Forest) (from : ℕ) → TreeInOrder from (nest left inner right) → InOrder (left.start + 1) (level text inner) (right.end - 1)
+inner_in_order : (text : List ℕ) (left right : Token) (inner : Forest) (from : ℕ) → TreeInOrder text from (nest left inner right) → InOrder (left.start + 1) (level text inner) (right.end - 1)
 inner_in_order text left right inner from lies =
-    earlier (left.start + 1) left.end (right.end - 1) (level text inner) (omega (arith, lies.1)) (later left.end right.start (right.end - 1) (level text inner) (omega (arith, lies.3)) (level_in_order text left.end right.start inner lies.2))
+    earlier (left.start + 1) left.end (right.end - 1) (level text inner) (omega (arith, lies.1.some)) (later left.end right.start (right.end - 1) (level text inner) (omega (arith, lies.3.some)) (level_in_order text left.end right.start inner lies.2))
 
 mutual
   unfolding inside_of insides read_inside
 
-  inside_lies : (text : List ℕ) (from : ℕ) (tree : Tree) → TreeInOrder from tree → InsideLies (tree_start tree) (inside_of text tree) (tree_end tree)
+  inside_lies : (text : List ℕ) (from : ℕ) (tree : Tree) → TreeInOrder text from tree → InsideLies (tree_start tree) (inside_of text tree) (tree_end tree)
   inside_lies text from (leaf token) lies = tt
   inside_lies text from (nest left inner right) lies =
       found_in_lies (left.start + 1) (right.end - 1) (level text inner) (insides text inner) (inner_in_order text left right inner from lies) (beside_level InsideLies text inner (insides text inner) (insides_lie text left.end right.start inner lies.2))
 
-  insides_lie : (text : List ℕ) (from to : ℕ) (forest : Forest) → ForestInOrder from forest to → Beside InsideLies (own_marks text forest) (insides text forest)
+  insides_lie : (text : List ℕ) (from to : ℕ) (forest : Forest) → ForestInOrder text from forest to → Beside InsideLies (own_marks text forest) (insides text forest)
   insides_lie text from to none lies = tt
   insides_lie text from to (cons tree forest) lies =
       (beside_marks InsideLies text tree (inside_of text tree) (inside_lies text from tree lies.0), insides_lie text (tree_end tree) to forest lies.1)
 
-level_insides : (text : List ℕ) (from to : ℕ) (forest : Forest) → ForestInOrder from forest to → Beside InsideLies (level text forest) (insides text forest)
+level_insides : (text : List ℕ) (from to : ℕ) (forest : Forest) → ForestInOrder text from forest to → Beside InsideLies (level text forest) (insides text forest)
 level_insides text from to forest lies = beside_level InsideLies text forest (insides text forest) (insides_lie text from to forest lies)
 
 mutual
   unfolding members_of members
 
-  members_lie : (text : List ℕ) (from : ℕ) (tree : Tree) → TreeInOrder from tree → MembersLie (tree_start tree) (members_of text tree) (tree_end tree)
+  members_lie : (text : List ℕ) (from : ℕ) (tree : Tree) → TreeInOrder text from tree → MembersLie (tree_start tree) (members_of text tree) (tree_end tree)
   members_lie text from (leaf token) lies = tt
   members_lie text from (nest left inner right) lies =
       items_lie place.Members (level text inner) (insides text inner) (members text inner) (level_insides text left.end right.start inner lies.2) (beside_level MembersLie text inner (members text inner) (all_members_lie text left.end right.start inner lies.2))
       (right.end - 1) (left.start + 1) (inner_in_order text left right inner from lies)
 
-  all_members_lie : (text : List ℕ) (from to : ℕ) (forest : Forest) → ForestInOrder from forest to → Beside MembersLie (own_marks text forest) (members text forest)
+  all_members_lie : (text : List ℕ) (from to : ℕ) (forest : Forest) → ForestInOrder text from forest to → Beside MembersLie (own_marks text forest) (members text forest)
   all_members_lie text from to none lies = tt
   all_members_lie text from to (cons tree forest) lies =
       (beside_marks MembersLie text tree (members_of text tree) (members_lie text from tree lies.0), all_members_lie text (tree_end tree) to forest lies.1)
 
-list_lies : (of_place : Place) (text : List ℕ) (from to : ℕ) (forest : Forest) → ForestInOrder from forest to → OkHolds (λ items. ItemsLie from (items_from items) to) (items_of_list of_place text forest)
+list_lies : (of_place : Place) (text : List ℕ) (from to : ℕ) (forest : Forest) → ForestInOrder text from forest to → OkHolds (λ items. ItemsLie from (items_from items) to) (items_of_list of_place text forest)
 unfolding items_of_list
 list_lies of_place text from to forest lies =
     items_lie of_place (level text forest) (insides text forest) (members text forest) (level_insides text from to forest lies) (beside_level MembersLie text forest (members text forest) (all_members_lie text from to forest lies)) to from (level_in_order text from to forest lies)
 
-uses_lie : (text : List ℕ) (from to : ℕ) (forest : Forest) → ForestInOrder from forest to → UsesLie from (found_in (level text forest) (insides text forest)).uses to
+uses_lie : (text : List ℕ) (from to : ℕ) (forest : Forest) → ForestInOrder text from forest to → UsesLie from (found_in (level text forest) (insides text forest)).uses to
 uses_lie text from to forest lies = found_in_lies from to (level text forest) (insides text forest) (level_in_order text from to forest lies) (level_insides text from to forest lies)
 
 abbrev OutlineLies : List ℕ → OutlineSeen → Type 0
 OutlineLies text seen = ItemsLie 0 seen.items (length text) × UsesLie 0 seen.uses (length text)
 
-shape_lies : (text : List ℕ) (of_shape : Shape) (forest : Forest) → ForestInOrder 0 forest (length text) → OkHolds (OutlineLies text) (by_shape text of_shape forest)
+shape_lies : (text : List ℕ) (of_shape : Shape) (forest : Forest) → ForestInOrder text 0 forest (length text) → OkHolds (OutlineLies text) (by_shape text of_shape forest)
 shape_lies text shape.File forest lies = ok_then (OutlineLies text) (items_of_list place.File text forest) _ (λ items are. (ok_at (λ items. ItemsLie 0 (items_from items) (length text)) (items_of_list place.File text forest) items are (list_lies place.File text 0 (length text) forest lies), tt))
 shape_lies text shape.Items forest lies = ok_then (OutlineLies text) (items_of_list place.Anywhere text forest) _ (λ items are. (ok_at (λ items. ItemsLie 0 (items_from items) (length text)) (items_of_list place.Anywhere text forest) items are (list_lies place.Anywhere text 0 (length text) forest lies), tt))
 shape_lies text shape.Attributes forest lies = ok_then (OutlineLies text) (attributes_from 0 (level text forest) (insides text forest)) _ (λ attrs are. (tt, tt))

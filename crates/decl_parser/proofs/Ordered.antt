@@ -6,21 +6,22 @@ use Rattle.swift_lexer.specs.declared.token.Token.{Token}
 use Rattle.swift_lexer.specs.Tiles.{IsTile, Chained, last_end, TokensTile}
 use Rattle.swift_lexer.specs.Trees.{Tree, leaf, nest, Forest, none, cons, tree_tokens, forest_tokens}
 use Rattle.element_marks.specs.declared.mark.Mark.{Mark}
-use Rattle.element_marks.specs.Sorts.{is_semicolon}
+use Rattle.element_marks.specs.Sorts.{is_semicolon, is_quoted, is_use}
 use Rattle.element_marks.specs.Marks.{mark_of, mark_between}
 use Rattle.element_marks.specs.Spans.{end_of}
 use Rattle.element_marks.specs.Heads.{with_joins, with_angles, with_modifiers, with_heads, in_list}
 use Rattle.element_marks.specs.Levels.{own_marks, level}
 use Rattle.decl_parser.specs.Cut.{after}
+use Rattle.decl_parser.proofs.ElementBytes.{MarkFits, element_fits}
 
 -- the elements lie between the two places, each behind the one before
 abbrev pub InOrder : ℕ → List Mark → ℕ → Type 0
 InOrder from [] to = from ≤ to
-InOrder from (mark ∷ marks) to = (from ≤ mark.start) × (mark.start < mark.end) × InOrder mark.end marks to
+InOrder from (mark ∷ marks) to = (from ≤ mark.start) × MarkFits mark.start mark.end (is_quoted mark) (is_use mark) mark.ends_angle × InOrder mark.end marks to
 
 pub bounds : (from to : ℕ) (marks : List Mark) → InOrder from marks to → from ≤ to
 bounds from to [] lies = lies
-bounds from to (mark ∷ marks) lies = omega (arith, lies.0, lies.1, bounds mark.end to marks lies.2)
+bounds from to (mark ∷ marks) lies = omega (arith, lies.0, lies.1.some, bounds mark.end to marks lies.2)
 
 pub earlier : (before from to : ℕ) (marks : List Mark) → before ≤ from → InOrder from marks to → InOrder before marks to
 earlier before from to [] less lies = omega arith
@@ -38,7 +39,7 @@ lies_take (suc n) from to (mark ∷ marks) lies = (lies.0, lies.1, lies_take n m
 pub lies_drop : (n from to : ℕ) (marks : List Mark) → InOrder from marks to → InOrder from (drop n marks) to
 lies_drop zero from to marks lies = lies
 lies_drop (suc n) from to [] lies = lies
-lies_drop (suc n) from to (mark ∷ marks) lies = earlier from mark.end to (drop n marks) (omega (arith, lies.0, lies.1)) (lies_drop n mark.end to marks lies.2)
+lies_drop (suc n) from to (mark ∷ marks) lies = earlier from mark.end to (drop n marks) (omega (arith, lies.0, lies.1.some)) (lies_drop n mark.end to marks lies.2)
 
 -- up to the end of the last
 pub lies_closely : (from to : ℕ) (marks : List Mark) → InOrder from marks to → InOrder from marks (end_of from marks)
@@ -63,7 +64,7 @@ pub lies_past : (from to : ℕ) (marks : List Mark) → InOrder from marks to �
 lies_past from to [] lies = (omega arith, lies, lies)
 lies_past from to (mark ∷ marks) lies =
     elim (is_semicolon mark) as (λ b. Passed from (if b then mark.end else from) (if b then marks else mark ∷ marks) to) [
-      | true ↦ (omega (arith, lies.0, lies.1), bounds mark.end to marks lies.2, lies.2)
+      | true ↦ (omega (arith, lies.0, lies.1.some), bounds mark.end to marks lies.2, lies.2)
       | false ↦ (omega arith, bounds from to (mark ∷ marks) lies, lies)
     ]
 
@@ -139,23 +140,23 @@ module _ {A : Type 0} (R : ℕ → A → ℕ → Type 0) where
       beside_heads (with_modifiers (with_angles (with_joins None marks))) others (beside_modifiers (with_angles (with_joins None marks)) others (beside_angles (with_joins None marks) others (beside_joins None marks others holds)))
 
 -- tokens, each behind the one before
-abbrev TokensInOrder : ℕ → List Token → ℕ → Type 0
-TokensInOrder from [] to = from ≤ to
-TokensInOrder from (token ∷ tokens) to = (from ≤ token.start) × (token.start < token.end) × TokensInOrder token.end tokens to
+abbrev TokensInOrder : List ℕ → ℕ → List Token → ℕ → Type 0
+TokensInOrder text from [] to = from ≤ to
+TokensInOrder text from (token ∷ tokens) to = (from ≤ token.start) × IsTile text token × TokensInOrder text token.end tokens to
 
-tokens_later : (from to behind : ℕ) (tokens : List Token) → to ≤ behind → TokensInOrder from tokens to → TokensInOrder from tokens behind
-tokens_later from to behind [] less lies = omega arith
-tokens_later from to behind (token ∷ tokens) less lies = (lies.0, lies.1, tokens_later token.end to behind tokens less lies.2)
+tokens_later : (text : List ℕ) (from to behind : ℕ) (tokens : List Token) → to ≤ behind → TokensInOrder text from tokens to → TokensInOrder text from tokens behind
+tokens_later text from to behind [] less lies = omega arith
+tokens_later text from to behind (token ∷ tokens) less lies = (lies.0, lies.1, tokens_later text token.end to behind tokens less lies.2)
 
-tokens_split : (from to : ℕ) (tokens others : List Token) → TokensInOrder from (tokens ++ others) to → TokensInOrder from tokens (last_end from tokens) × TokensInOrder (last_end from tokens) others to
-tokens_split from to [] others lies = (omega arith, lies)
-tokens_split from to (token ∷ tokens) others lies = let rest = tokens_split token.end to tokens others lies.2 in ((lies.0, lies.1, rest.0), rest.1)
+tokens_split : (text : List ℕ) (from to : ℕ) (tokens others : List Token) → TokensInOrder text from (tokens ++ others) to → TokensInOrder text from tokens (last_end from tokens) × TokensInOrder text (last_end from tokens) others to
+tokens_split text from to [] others lies = (omega arith, lies)
+tokens_split text from to (token ∷ tokens) others lies = let rest = tokens_split text token.end to tokens others lies.2 in ((lies.0, lies.1, rest.0), rest.1)
 
-tokens_in_order : (text : List ℕ) (at : ℕ) (tokens : List Token) → at ≤ length text → All (IsTile text) tokens → Chained at tokens → TokensInOrder at tokens (length text)
+tokens_in_order : (text : List ℕ) (at : ℕ) (tokens : List Token) → at ≤ length text → All (IsTile text) tokens → Chained at tokens → TokensInOrder text at tokens (length text)
 tokens_in_order text at [] within each chained = within
 tokens_in_order text at (token ∷ tokens) within each chained =
     let tile = All-head (IsTile text) token tokens each in
-    (omega (arith, tile.trivia, chained.0), tile.some, tokens_in_order text token.end tokens tile.within (All-tail (IsTile text) token tokens each) chained.1)
+    (omega (arith, tile.trivia, chained.0), tile, tokens_in_order text token.end tokens tile.within (All-tail (IsTile text) token tokens each) chained.1)
 
 -- the places of a tree
 abbrev pub tree_start : Tree → ℕ
@@ -168,13 +169,13 @@ tree_end (nest left inner right) = right.end
 
 -- trees, each behind the one before; those inside a group between its brackets
 abbrev mutual
-  pub TreeInOrder : ℕ → Tree → Type 0
-  TreeInOrder from (leaf token) = (from ≤ token.start) × (token.start < token.end)
-  TreeInOrder from (nest left inner right) = (from ≤ left.start) × (left.start < left.end) × ForestInOrder left.end inner right.start × (right.start < right.end)
+  pub TreeInOrder : List ℕ → ℕ → Tree → Type 0
+  TreeInOrder text from (leaf token) = (from ≤ token.start) × IsTile text token
+  TreeInOrder text from (nest left inner right) = (from ≤ left.start) × IsTile text left × ForestInOrder text left.end inner right.start × IsTile text right
 
-  pub ForestInOrder : ℕ → Forest → ℕ → Type 0
-  ForestInOrder from none to = from ≤ to
-  ForestInOrder from (cons tree forest) to = TreeInOrder from tree × ForestInOrder (tree_end tree) forest to
+  pub ForestInOrder : List ℕ → ℕ → Forest → ℕ → Type 0
+  ForestInOrder text from none to = from ≤ to
+  ForestInOrder text from (cons tree forest) to = TreeInOrder text from tree × ForestInOrder text (tree_end tree) forest to
 
 last_end-push : (at : ℕ) (tokens : List Token) (token : Token) → last_end at (tokens ++ token ∷ []) ≡ token.end
 last_end-push at [] token = refl
@@ -185,30 +186,30 @@ tree_last from (leaf token) = refl
 tree_last from (nest left inner right) = last_end-push left.end (forest_tokens inner) right
 
 mutual
-  tree_in_order : (from to : ℕ) (tree : Tree) → TokensInOrder from (tree_tokens tree) to → TreeInOrder from tree
-  tree_in_order from to (leaf token) lies = (lies.0, lies.1)
-  tree_in_order from to (nest left inner right) lies =
-      let parts = tokens_split left.end to (forest_tokens inner) (right ∷ []) lies.2 in
-      (lies.0, lies.1, forest_in_order left.end right.start inner (tokens_later left.end (last_end left.end (forest_tokens inner)) right.start (forest_tokens inner) parts.1.0 parts.0), parts.1.1)
+  tree_in_order : (text : List ℕ) (from to : ℕ) (tree : Tree) → TokensInOrder text from (tree_tokens tree) to → TreeInOrder text from tree
+  tree_in_order text from to (leaf token) lies = (lies.0, lies.1)
+  tree_in_order text from to (nest left inner right) lies =
+      let parts = tokens_split text left.end to (forest_tokens inner) (right ∷ []) lies.2 in
+      (lies.0, lies.1, forest_in_order text left.end right.start inner (tokens_later text left.end (last_end left.end (forest_tokens inner)) right.start (forest_tokens inner) parts.1.0 parts.0), parts.1.1)
 
-  forest_in_order : (from to : ℕ) (forest : Forest) → TokensInOrder from (forest_tokens forest) to → ForestInOrder from forest to
-  forest_in_order from to none lies = lies
-  forest_in_order from to (cons tree forest) lies =
-      let parts = tokens_split from to (tree_tokens tree) (forest_tokens forest) lies in
-      (tree_in_order from (last_end from (tree_tokens tree)) tree parts.0, forest_in_order (tree_end tree) to forest (subst (λ n. TokensInOrder n (forest_tokens forest) to) (tree_last from tree) parts.1))
+  forest_in_order : (text : List ℕ) (from to : ℕ) (forest : Forest) → TokensInOrder text from (forest_tokens forest) to → ForestInOrder text from forest to
+  forest_in_order text from to none lies = lies
+  forest_in_order text from to (cons tree forest) lies =
+      let parts = tokens_split text from to (tree_tokens tree) (forest_tokens forest) lies in
+      (tree_in_order text from (last_end from (tree_tokens tree)) tree parts.0, forest_in_order text (tree_end tree) to forest (subst (λ n. TokensInOrder text n (forest_tokens forest) to) (tree_last from tree) parts.1))
 
-pub tiled_in_order : (text : List ℕ) (tokens : List Token) (forest : Forest) → TokensTile text tokens → forest_tokens forest ≡ tokens → ForestInOrder 0 forest (length text)
+pub tiled_in_order : (text : List ℕ) (tokens : List Token) (forest : Forest) → TokensTile text tokens → forest_tokens forest ≡ tokens → ForestInOrder text 0 forest (length text)
 tiled_in_order text tokens forest tiles same =
-    forest_in_order 0 (length text) forest (subst (λ l. TokensInOrder 0 l (length text)) (sym same) (tokens_in_order text 0 tokens (omega arith) tiles.each tiles.chained))
+    forest_in_order text 0 (length text) forest (subst (λ l. TokensInOrder text 0 l (length text)) (sym same) (tokens_in_order text 0 tokens (omega arith) tiles.each tiles.chained))
 
 mutual
-  forest_bounds : (from to : ℕ) (forest : Forest) → ForestInOrder from forest to → from ≤ to
-  forest_bounds from to none lies = lies
-  forest_bounds from to (cons tree forest) lies = let first = tree_bounds from tree lies.0 in omega (arith, first.0, first.1, forest_bounds (tree_end tree) to forest lies.1)
+  forest_bounds : (text : List ℕ) (from to : ℕ) (forest : Forest) → ForestInOrder text from forest to → from ≤ to
+  forest_bounds text from to none lies = lies
+  forest_bounds text from to (cons tree forest) lies = let first = tree_bounds text from tree lies.0 in omega (arith, first.0, first.1, forest_bounds text (tree_end tree) to forest lies.1)
 
-  tree_bounds : (from : ℕ) (tree : Tree) → TreeInOrder from tree → (from ≤ tree_start tree) × (tree_start tree < tree_end tree)
-  tree_bounds from (leaf token) lies = lies
-  tree_bounds from (nest left inner right) lies = (lies.0, omega (arith, lies.1, forest_bounds left.end right.start inner lies.2, lies.3))
+  tree_bounds : (text : List ℕ) (from : ℕ) (tree : Tree) → TreeInOrder text from tree → (from ≤ tree_start tree) × (tree_start tree < tree_end tree)
+  tree_bounds text from (leaf token) lies = (lies.0, lies.1.some)
+  tree_bounds text from (nest left inner right) lies = (lies.0, omega (arith, lies.1.some, forest_bounds text left.end right.start inner lies.2, lies.3.some))
 
 mark_start : (text : List ℕ) (tree : Tree) → (mark_of text tree).start ≡ tree_start tree
 unfolding mark_between
@@ -220,13 +221,17 @@ unfolding mark_between
 mark_end text (leaf token) = refl
 mark_end text (nest left inner right) = refl
 
-own_in_order : (text : List ℕ) (from to : ℕ) (forest : Forest) → ForestInOrder from forest to → InOrder from (own_marks text forest) to
+mark_fits : (text : List ℕ) (from : ℕ) (tree : Tree) → TreeInOrder text from tree → MarkFits (mark_of text tree).start (mark_of text tree).end (is_quoted (mark_of text tree)) (is_use (mark_of text tree)) (mark_of text tree).ends_angle
+mark_fits text from (leaf token) lies = element_fits text token token.end lies.1 (omega arith)
+mark_fits text from (nest left inner right) lies = element_fits text left right.end lies.1 (omega (arith, forest_bounds text left.end right.start inner lies.2, lies.3.some))
+
+own_in_order : (text : List ℕ) (from to : ℕ) (forest : Forest) → ForestInOrder text from forest to → InOrder from (own_marks text forest) to
 own_in_order text from to none lies = lies
 own_in_order text from to (cons tree forest) lies =
-    let first = tree_bounds from tree lies.0 in
-    (omega (arith, first.0, mark_start text tree), omega (arith, first.1, mark_start text tree, mark_end text tree), subst (λ n. InOrder n (own_marks text forest) to) (sym (mark_end text tree)) (own_in_order text (tree_end tree) to forest lies.1))
+    let first = tree_bounds text from tree lies.0 in
+    (omega (arith, first.0, mark_start text tree), mark_fits text from tree lies.0, subst (λ n. InOrder n (own_marks text forest) to) (sym (mark_end text tree)) (own_in_order text (tree_end tree) to forest lies.1))
 
-pub level_in_order : (text : List ℕ) (from to : ℕ) (forest : Forest) → ForestInOrder from forest to → InOrder from (level text forest) to
+pub level_in_order : (text : List ℕ) (from to : ℕ) (forest : Forest) → ForestInOrder text from forest to → InOrder from (level text forest) to
 unfolding level
 level_in_order text from to forest lies = lies_in_list from to (own_marks text forest) (own_in_order text from to forest lies)
 

@@ -46,8 +46,8 @@ use_lies from to more mark marks lies =
     let behind = bounds (end_of mark.end (take more marks)) to (drop more marks) (lies_behind more mark.end to marks lies.2) in
     let grows = end_grows mark.end to (take more marks) (lies_take more mark.end to marks lies.2) in
     record {
-      between = record { begins = lies.0; some = omega (arith, lies.1, grows); ends = omega arith };
-      name = record { begins = omega (arith, lies.1); ends = grows };
+      between = record { begins = lies.0; some = omega (arith, lies.1.some, grows); ends = omega arith };
+      name = record { begins = omega (arith, lies.1.some); ends = grows };
     }
 
 -- what begins with the first element, and the elements behind it
@@ -73,19 +73,19 @@ inside_uses from mark marks (inside ∷ insides) less holds = uses_wider from (m
 step_lies : (use_ attribute from to : ℕ) (mark : Mark) (marks : List Mark) (insides : List Inside) → InOrder from (mark ∷ marks) to → Beside InsideLies (mark ∷ marks) insides → StepLies from to marks (step_by use_ attribute (mark ∷ marks) insides)
 step_lies zero zero from to mark marks insides lies holds = record {
   middle = mark.end;
-  first = omega (arith, lies.0, lies.1);
+  first = omega (arith, lies.0, lies.1.some);
   uses = inside_uses from mark marks insides lies.0 holds;
   behind = lies.2;
 }
 step_lies zero (suc more) from to mark marks insides lies holds = record {
   middle = end_of mark.end (take more marks);
-  first = omega (arith, lies.0, lies.1, end_grows mark.end to (take more marks) (lies_take more mark.end to marks lies.2));
+  first = omega (arith, lies.0, lies.1.some, end_grows mark.end to (take more marks) (lies_take more mark.end to marks lies.2));
   uses = tt;
   behind = lies_behind more mark.end to marks lies.2;
 }
 step_lies (suc more) attribute from to mark marks insides lies holds = record {
   middle = end_of mark.end (take more marks);
-  first = omega (arith, lies.0, lies.1, end_grows mark.end to (take more marks) (lies_take more mark.end to marks lies.2));
+  first = omega (arith, lies.0, lies.1.some, end_grows mark.end to (take more marks) (lies_take more mark.end to marks lies.2));
   uses = (use_lies from to more mark marks lies, tt);
   behind = lies_behind more mark.end to marks lies.2;
 }
