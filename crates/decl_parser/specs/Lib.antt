@@ -5,7 +5,9 @@ pub mod Faults
 pub mod Found
 pub mod Fragments
 pub mod Insides
+pub mod Laws
 pub mod Levels
+pub mod Nesting
 pub mod Outline
 pub mod Parts
 pub mod Places

@@ -10,6 +10,7 @@ mod found;
 mod fragments;
 mod inside;
 mod items;
+mod laws;
 mod levels;
 mod lists;
 mod parse;
@@ -17,6 +18,9 @@ mod parts;
 mod place;
 
 pub use fault::{ParseFault, ParseKind};
+pub use laws::{
+    accepted_texts_tile, one_outline, outline_keeps_the_text, some_outline, spans_in_order,
+};
 pub use parse::{
     LONGEST_SOURCE, elements_of, parse_accessors, parse_attributes, parse_expression, parse_file,
     parse_items,

@@ -1,0 +1,167 @@
+-- Declarations, one behind the other.
+use Rattle.std.proofs.Common.{◌≡◌, refl, sym, ap, subst, arith, ◌∙◌, ℕ, zero, suc, ◌+◌, ◌-◌, ◌<◌, ◌≤◌, ◌==◌, List, [], ◌∷◌, ◌++◌, length, take, drop, Option, Some, None, Ok, Bool, true, false, if◌then◌else◌}
+use Rattle.std.proofs.lemmas.List.{drop-drop, drop-take, length-drop}
+use Rattle.swift_base.specs.declared.place.Span.{Span}
+use Rattle.swift_tree.specs.declared.item.BlockShape.TheVariants as shape
+use Rattle.swift_tree.specs.declared.item.Kind.{Kind}
+use Rattle.swift_tree.specs.Outlines.{ItemSeen, items_from}
+use Rattle.element_marks.specs.declared.mark.Mark.{Mark}
+use Rattle.element_marks.specs.Sorts.{is_semicolon, is_braces}
+use Rattle.element_marks.specs.Spans.{end_of}
+use Rattle.element_marks.specs.Heads.{first_is}
+use Rattle.element_marks.specs.Runs.{before}
+use Rattle.decl_parser.specs.declared.place.Place.{Place}
+use Rattle.decl_parser.specs.declared.inside.Inside.{Inside}
+use Rattle.decl_parser.specs.declared.inside.BlockAt.{BlockAt}
+use Rattle.decl_parser.specs.declared.parts.Parts.{Parts}
+use Rattle.decl_parser.specs.Insides.{nothing_inside}
+use Rattle.decl_parser.specs.Attributes.{span_from}
+use Rattle.decl_parser.specs.Found.{Found, found_from}
+use Rattle.decl_parser.specs.Parts.{parts, has_members}
+use Rattle.decl_parser.specs.Cut.{MembersRead, after, all_ends, assembled, beginning, block_of, count_of, cut_from, first_members, head_of, item_at, items_in, kind_of, members_at, members_place, one_item, whole_item, without}
+use Rattle.decl_parser.specs.Nesting.{UsesLie, ItemLies, BlockLies, ItemsLie, after_of}
+use Rattle.decl_parser.proofs.Outcomes.{OkHolds, ok_then, ok_if, ok_at}
+use Rattle.decl_parser.proofs.Ordered.{InOrder, Beside, bounds, earlier, lies_take, lies_drop, lies_closely, lies_behind, lies_past, past_semicolon, has_at, beside_none, beside_take, beside_drop}
+use Rattle.decl_parser.proofs.UsesInOrder.{InsideLies, found_lies}
+use Rattle.decl_parser.proofs.BlocksInOrder.{BlockBetween, BlockFits, mark_between, parts_fit}
+
+-- members lie between the braces of their group
+abbrev pub MembersLie : ℕ → MembersRead → ℕ → Type 0
+MembersLie start members end = OkHolds (λ items. ItemsLie (start + 1) (items_from items) (end - 1)) members
+
+first_members_lie : (braces : Mark) (others : List Mark) (members : List MembersRead) (inner : List ItemSeen) → Beside MembersLie (braces ∷ others) members → first_members members ≡ Ok inner → ItemsLie (braces.start + 1) (items_from inner) (braces.end - 1)
+first_members_lie braces others [] inner holds is = let same : [] ≡ inner = cc in subst (λ l. ItemsLie (braces.start + 1) (items_from l) (braces.end - 1)) same tt
+first_members_lie braces others (members ∷ more) inner holds is = ok_at (λ items. ItemsLie (braces.start + 1) (items_from items) (braces.end - 1)) members inner is holds.0
+
+plain_block : (whole : Span) (at : Option BlockAt) (inner : List ItemSeen) → [] ≡ inner → BlockBetween whole.start whole.end at → BlockLies whole (block_of at inner)
+plain_block whole None inner same fits = tt
+plain_block whole (Some at) inner same fits = (fits, subst (λ l. ItemsLie (at.span.start + 1) (items_from l) (at.span.end - 1)) same tt)
+
+block_lies : (has : Bool) (whole : Span) (head : ℕ) (own : List Mark) (parts : Parts) (members : List MembersRead) (inner : List ItemSeen) → InOrder whole.start own whole.end → Beside MembersLie own members → BlockFits has whole.start whole.end (drop head own) parts
+    → members_at (if has then Some (head + before is_braces (drop head own)) else None) members ≡ Ok inner → BlockLies whole (block_of parts.block inner)
+block_lies false whole head own parts members inner lies holds fits found = let same : [] ≡ inner = cc in plain_block whole parts.block inner same fits
+block_lies true whole head own parts members inner lies holds fits found =
+    let place = head + before is_braces (drop head own) in
+    let here : drop place own ≡ fits.braces ∷ fits.others = sym (drop-drop (before is_braces (drop head own)) head own) ∙ fits.here in
+    let first : InOrder whole.start (fits.braces ∷ fits.others) whole.end = subst (λ l. InOrder whole.start l whole.end) here (lies_drop place whole.start whole.end own lies) in
+    let beside : Beside MembersLie (fits.braces ∷ fits.others) (drop place members) = subst (λ l. Beside MembersLie l (drop place members)) here (beside_drop MembersLie place own members holds) in
+    let braced : BlockLies whole (block_of (Some (record { span = record { start = fits.braces.start; end = fits.braces.end }; shape = shape.Members })) inner) = (mark_between whole.start whole.end fits.braces fits.others first, first_members_lie fits.braces fits.others (drop place members) inner beside found) in
+    subst (λ b. BlockLies whole (block_of b inner)) (sym fits.block) braced
+
+-- what stands inside the members' braces is left out
+replaced : (place : ℕ) (marks : List Mark) (insides : List Inside) → Beside InsideLies marks insides → Beside InsideLies marks (take place insides ++ (nothing_inside ∷ drop 1 (drop place insides)))
+replaced place [] insides holds = tt
+replaced zero (mark ∷ marks) [] holds = (tt, beside_none InsideLies marks)
+replaced zero (mark ∷ marks) (inside ∷ insides) holds = (tt, holds.1)
+replaced (suc place) (mark ∷ marks) [] holds = (tt, beside_none InsideLies marks)
+replaced (suc place) (mark ∷ marks) (inside ∷ insides) holds = (holds.0, replaced place marks insides holds.1)
+
+beside_without : (place : Option ℕ) (marks : List Mark) (insides : List Inside) → Beside InsideLies marks insides → Beside InsideLies marks (without place insides)
+beside_without None marks insides holds = holds
+beside_without (Some place) marks insides holds = replaced place marks insides holds
+
+-- a declaration's span, from its first element to its last
+own_lies : (from to : ℕ) (own : List Mark) → 0 < length own → InOrder from own to → InOrder (span_from own).start own (span_from own).end
+own_lies from to [] some lies = absurd (omega (arith, some))
+own_lies from to (mark ∷ marks) some lies = (omega arith, lies.1, lies_closely mark.end to marks lies.2)
+
+has_beginning : (place : Place) (own : List Mark) (starter : Mark) → beginning place own ≡ Ok starter → 0 < length own
+has_beginning place [] starter is = cc
+has_beginning place (mark ∷ marks) starter is = omega arith
+
+-- a declaration lies between the two places, and ends where it should
+abbrev pub ItemFits : ℕ → ℕ → List Mark → List Mark → ItemSeen → Type 0
+ItemFits from to own next seen = ItemLies from seen to × (after_of seen ≡ after (end_of from own) next)
+
+assembled_fits : (from to : ℕ) (own next : List Mark) (kind : Kind) (parts : Parts) (found : Found) (inner : List ItemSeen) → 0 < length own → InOrder from own (end_of from own) → InOrder (end_of from own) next to
+    → UsesLie (span_from own).start found.uses (span_from own).end → BlockLies (span_from own) (block_of parts.block inner) → ItemFits from to own next (assembled (span_from own) next kind parts found inner)
+assembled_fits from to [] next kind parts found inner some lies behind uses block = absurd (omega (arith, some))
+assembled_fits from to (mark ∷ marks) next kind parts found inner some lies behind uses block =
+    let end = end_of mark.end marks in
+    let passed = lies_past end to next behind in
+    ((record { begins = lies.0; some = omega (arith, lies.1.some, bounds mark.end end marks lies.2); behind = passed.0; ends = passed.1; uses = uses }, block), refl)
+
+module _ (place : Place) (list : List Mark) (at : ℕ) (next : List Mark) (insides : List Inside) (members : List MembersRead) (from to : ℕ) where
+  pub item_fits : InOrder from (drop at list) (end_of from (drop at list)) → InOrder (end_of from (drop at list)) next to → Beside InsideLies (drop at list) insides → Beside MembersLie (drop at list) members
+      → OkHolds (ItemFits from to (drop at list) next) (item_at place list at next insides members)
+  unfolding item_at whole_item
+  item_fits lies behind inside_holds members_hold =
+      let own = drop at list in
+      let head = head_of own in
+      let P : ItemSeen → Type 0 = ItemFits from to (drop at list) next in
+      ok_then P (beginning place own) _ (λ starter begun.
+      let some = has_beginning place own starter begun in
+      let braces = members_place starter head own in
+      let outside = without braces insides in
+      let whole = span_from own in
+      let closely = own_lies from (end_of from own) own some lies in
+      ok_then P (parts (kind_of starter) starter (drop head own) (drop head outside)) _ (λ read is.
+      ok_then P (members_at braces members) _ (λ inner found.
+      ok_then P (all_ends read.body starter list at) _ (λ ended ends.
+      assembled_fits from to own next (kind_of starter) read (found_from read.blocks (at + head) list at 0 (length list - at) outside) inner some lies behind
+      (found_lies read.blocks (at + head) list whole.end at 0 (length list - at) outside whole.start (omega (arith, some, length-drop at list)) (let here : at ≡ at + 0 = omega arith in subst (λ n. InOrder whole.start (drop n list) whole.end) here closely) (beside_without braces own insides inside_holds))
+      (block_lies (has_members (kind_of starter)) whole head own read members inner closely members_hold
+      (ok_at (BlockFits (has_members (kind_of starter)) whole.start whole.end (drop head own)) (parts (kind_of starter) starter (drop head own) (drop head outside)) read is (parts_fit whole.start whole.end (kind_of starter) starter (drop head own) (drop head outside) (lies_drop head whole.start whole.end own closely)))
+      found)))))
+
+not_zero : (n : ℕ) → (n == 0) ≡ false → 0 < n
+not_zero zero is = cc
+not_zero (suc n) is = omega arith
+
+module _ (place : Place) (marks : List Mark) (insides : List Inside) (members : List MembersRead) (inside_holds : Beside InsideLies marks insides) (members_hold : Beside MembersLie marks members) (to : ℕ) where
+  abbrev OneFits : ℕ → List Mark → ItemSeen → Type 0
+  OneFits from rest seen = ItemFits from to (take (count_of rest) rest) (drop (count_of rest) rest) seen
+
+  one_fits : (from at : ℕ) → InOrder from (drop at marks) to → OkHolds (OneFits from (drop at marks)) (one_item place marks insides members at)
+  one_fits from at lies =
+      let rest = drop at marks in
+      let count = count_of rest in
+      let list = take (at + count) marks in
+      let own : drop at list ≡ take count rest = drop-take at count marks in
+      let next : drop (at + count) marks ≡ drop count rest = sym (drop-drop count at marks) in
+      let own_insides : Beside InsideLies (drop at list) (take count (drop at insides)) = subst (λ l. Beside InsideLies l (take count (drop at insides))) (sym own) (beside_take InsideLies count rest (drop at insides) (beside_drop InsideLies at marks insides inside_holds)) in
+      let own_members : Beside MembersLie (drop at list) (take count (drop at members)) = subst (λ l. Beside MembersLie l (take count (drop at members))) (sym own) (beside_take MembersLie count rest (drop at members) (beside_drop MembersLie at marks members members_hold)) in
+      let closely : InOrder from (drop at list) (end_of from (drop at list)) = subst (λ l. InOrder from l (end_of from l)) (sym own) (lies_closely from to (take count rest) (lies_take count from to rest lies)) in
+      let behind : InOrder (end_of from (drop at list)) (drop (at + count) marks) to = subst (λ l. InOrder (end_of from (drop at list)) l to) (sym next) (subst (λ l. InOrder (end_of from l) (drop count rest) to) (sym own) (lies_behind count from to rest lies)) in
+      let fits = item_fits place list at (drop (at + count) marks) (take count (drop at insides)) (take count (drop at members)) from to closely behind own_insides own_members in
+      subst (λ l. OkHolds (ItemFits from to l (drop count rest)) (one_item place marks insides members at)) own (subst (λ l. OkHolds (ItemFits from to (drop at list) l) (one_item place marks insides members at)) next fits)
+
+  abbrev AllLie : ℕ → List ItemSeen → Type 0
+  AllLie from items = ItemsLie from (items_from items) to
+
+  first_passed : (from at : ℕ) (b : Bool) (mark : Mark) (rest : List Mark) → is_semicolon mark ≡ b → drop at marks ≡ mark ∷ rest → InOrder from (past_semicolon (drop (at + 0) marks)) to → InOrder from (if b then rest else mark ∷ rest) to
+  first_passed from at b mark rest is here lies =
+      let at_once : at + 0 ≡ at = omega arith in
+      let first : InOrder from (if is_semicolon mark then rest else mark ∷ rest) to = subst (λ l. InOrder from (past_semicolon l) to) (ap (λ n. drop n marks) at_once ∙ here) lies in
+      subst (λ b. InOrder from (if b then rest else mark ∷ rest) to) is first
+
+  cut_lies : (at inside left from : ℕ) → at + left ≤ length marks → InOrder from (past_semicolon (drop (at + inside) marks)) to → OkHolds (AllLie from) (cut_from place marks insides members at inside left)
+  cut_lies at inside zero from within lies = tt
+  cut_lies at (suc inside) (suc left) from within lies =
+      let same : at + suc inside ≡ suc at + inside = omega arith in
+      cut_lies (suc at) inside left from (omega (arith, within)) (subst (λ n. InOrder from (past_semicolon (drop n marks)) to) same lies)
+  cut_lies at zero (suc left) from within lies =
+      let here = has_at marks at (omega (arith, within)) in
+      let count = count_of (drop at marks) in
+      ok_if (AllLie from) (first_is is_semicolon (drop at marks)) _ _
+      (λ is.
+      let rest : InOrder from here.marks to = first_passed from at true here.mark here.marks (ap (first_is is_semicolon) (sym here.here) ∙ is) here.here lies in
+      let passed = lies_past from to here.marks rest in
+      let behind : suc at ≡ suc at + 0 = omega arith in
+      cut_lies (suc at) 0 left from (omega (arith, within)) (subst (λ l. InOrder from (past_semicolon l) to) (sym here.behind ∙ ap (λ n. drop n marks) behind) (earlier from (after from here.marks) to (past_semicolon here.marks) passed.0 passed.2)))
+      (λ is.
+      let first : InOrder from (drop at marks) to = subst (λ l. InOrder from l to) (sym here.here) (first_passed from at false here.mark here.marks (ap (first_is is_semicolon) (sym here.here) ∙ is) here.here lies) in
+      ok_if (AllLie from) (head_of (drop at marks) == 0) _ _ (λ no_head. tt) (λ some_head.
+      ok_then (AllLie from) (one_item place marks insides members at) _ (λ one read.
+      let fits : OneFits from (drop at marks) one = ok_at (OneFits from (drop at marks)) (one_item place marks insides members at) one read (one_fits from at first) in
+      let end = end_of from (take count (drop at marks)) in
+      let passed = lies_past end to (drop count (drop at marks)) (lies_behind count from to (drop at marks) first) in
+      let there : at + count ≡ suc at + (count - 1) = omega (arith, not_zero (head_of (drop at marks)) some_head) in
+      let behind : InOrder (after_of one) (past_semicolon (drop (suc at + (count - 1)) marks)) to =
+      subst (λ l. InOrder (after_of one) (past_semicolon l) to) (drop-drop count at marks ∙ ap (λ n. drop n marks) there) (subst (λ n. InOrder n (past_semicolon (drop count (drop at marks))) to) (sym fits.1) passed.2) in
+      ok_then (AllLie from) (cut_from place marks insides members (suc at) (count - 1) left) _ (λ others are.
+      (fits.0, ok_at (AllLie (after_of one)) (cut_from place marks insides members (suc at) (count - 1) left) others are (cut_lies (suc at) (count - 1) left (after_of one) (omega (arith, within)) behind))))))
+
+  pub items_lie : (from : ℕ) → InOrder from marks to → OkHolds (λ items. ItemsLie from (items_from items) to) (items_in place marks insides members)
+  unfolding items_in
+  items_lie from lies = let passed = lies_past from to marks lies in cut_lies 0 0 (length marks) from (omega arith) (earlier from (after from marks) to (past_semicolon marks) passed.0 passed.2)

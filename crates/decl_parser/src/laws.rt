@@ -1,0 +1,28 @@
+// Laws of outlines: a call of each brings it in as a fact.
+
+ghost use Rattle.decl_parser.specs.Laws.{AcceptedTextsTile, OneOutline, OutlineKeepsTheText, SomeOutline, SpansInOrder};
+
+/// A text has one outline for a shape or is refused with one fault.
+pub fn one_outline()
+    ensures { OneOutline }
+{}
+
+/// A text is accepted or refused, whatever the shape.
+pub fn some_outline()
+    ensures { SomeOutline }
+{}
+
+/// An outline holds the text that was read, and the shape as which it was read.
+pub fn outline_keeps_the_text()
+    ensures { OutlineKeepsTheText }
+{}
+
+/// The tokens of an accepted text and their trivia, joined, are the text.
+pub fn accepted_texts_tile()
+    ensures { AcceptedTextsTile }
+{}
+
+/// Declarations, their blocks, the members of these and the macro uses lie in the text in order, nested or apart.
+pub fn spans_in_order()
+    ensures { SpansInOrder }
+{}
