@@ -1,5 +1,5 @@
 -- What words are for in the grammar of declarations: this project's own, after The Swift Programming Language, Declarations and Statements.
-use Rattle.std.specs.Prelude.{ℕ, List, [], ◌∷◌, length, slice_index, Bool, true, false, ◌&&◌, nat_eq, nat_le, if◌then◌else◌}
+use Rattle.std.specs.Prelude.{ℕ, List, [], ◌∷◌, length, map, slice_index, slice_index_or, Bool, true, false, ◌==◌, nat_eq, if◌then◌else◌}
 use Rattle.std.specs.List.{list_any, starts_with}
 use Rattle.std.specs.Str.{bytes_eq}
 use Rattle.swift_lexer.specs.declared.strings.TheConstants.{BUILTIN_WORDS}
@@ -7,7 +7,7 @@ use Rattle.element_marks.specs.declared.words.Starter.{Starter}
 use Rattle.element_marks.specs.declared.words.Starter.TheVariants as starter
 use Rattle.element_marks.specs.declared.words.Keyword.{Keyword}
 use Rattle.element_marks.specs.declared.words.Keyword.TheVariants.{Plain, Modifier, AccessorModifier, Starts, Joining, Where, Condition, Accessor, Observer, Underscore, Async, Throws}
-use Rattle.element_marks.specs.declared.words.TheConstants.{LAST_LETTER, LONGEST_KEYWORD, RESERVED, UNDERSCORE, WORDS}
+use Rattle.element_marks.specs.declared.words.TheConstants.{FIRST_BYTES, RESERVED, WORDS}
 
 -- by the first row of the word, where there is one
 abbrev pub keyword_in : {R : Type 0} → (R → List ℕ) → (R → Keyword) → List R → List ℕ → Keyword
@@ -17,9 +17,9 @@ keyword_in spelling keyword (row ∷ rows) word = if bytes_eq (spelling row) wor
 unfoldable pub keyword_of : List ℕ → Keyword
 keyword_of word = keyword_in (λ row. row.0.now) (λ row. row.1) WORDS word
 
--- each word of the table begins with a lower case letter or `_`, or a byte between these, and is no longer than this
+-- a word of the table is as long and begins with the same byte
 abbrev pub looks_like_keyword : List ℕ → Bool
-looks_like_keyword word = nat_le UNDERSCORE (slice_index word 0) && nat_le (slice_index word 0) LAST_LETTER && nat_le (length word) LONGEST_KEYWORD
+looks_like_keyword word = list_any (λ byte. byte == slice_index word 0) (slice_index_or (map (λ row. row.now) FIRST_BYTES) (length word) [])
 
 -- the word behind a `#` is one of Swift's own
 unfoldable pub is_builtin : List ℕ → Bool

@@ -5,6 +5,7 @@
 #![tactic(auto)]
 
 mod accessors;
+mod blocks;
 mod heads;
 mod inherits;
 mod level;
@@ -17,6 +18,7 @@ mod uses;
 mod words;
 
 pub use accessors::{accessor_words, lists_accessors, observes};
+pub use blocks::Blocks;
 pub use heads::{
     attribute_length, behind, dots_length, first_angles, first_braces, first_colon,
     first_parentheses,

@@ -48,6 +48,17 @@ const USES: [(&str, usize, usize); 8] = [
     ("#m { }\ndone: { }", 0, 2),
 ];
 
+/// How many elements a use with three closures is, where blocks begin at these places.
+const CLOSURES: [(&[u32], usize); 7] = [
+    (&[0, 2, 4, 12, 14, 23, 25], 8),
+    (&[25, 23, 14, 12, 4, 2, 0], 8),
+    (&[2, 24, 30], 5),
+    (&[30, 24, 2], 5),
+    (&[1, 13, 24], 2),
+    (&[24, 1, 13], 2),
+    (&[24, 13, 3], 1),
+];
+
 /// How many elements the declaration is that begins with a head of one element.
 const ITEMS: [(&str, usize); 5] = [
     ("let a =\n1\nfunc f() {}", 4),
@@ -142,9 +153,21 @@ fn angle_parts_and_uses(rt: HostRuntime) {
         let marks = marks_of(&rt, rt.alloc(), text.as_bytes());
         assert!(rt; place < marks.len(), "{text}");
         assert_eq!(rt;
-            use_length(&[], &marks[..place], &marks[place..]),
+            use_length(Blocks::new(&[]), &marks[..place], &marks[place..]),
             length,
             "{text}"
+        );
+    }
+}
+
+#[test]
+fn blocks_are_no_closures(rt: HostRuntime) {
+    let marks = marks_of(&rt, rt.alloc(), b"#m { } done: { } other: { }");
+    for (starts, length) in CLOSURES {
+        assert_eq!(rt;
+            use_length(Blocks::new(starts), &[], &marks),
+            length,
+            "{starts:?}"
         );
     }
 }

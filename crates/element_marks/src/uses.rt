@@ -5,6 +5,7 @@ ghost use Rattle.element_marks.specs.Sorts.{is_dot};
 ghost use Rattle.element_marks.specs.Heads.{first_is};
 ghost use Rattle.element_marks.specs.Uses.{call_length, closures_length, in_condition, is_closure, labels_length, use_angles, use_length};
 
+use crate::blocks::Blocks;
 use crate::heads::{behind, first_arguments, first_use};
 use crate::mark::Mark;
 use crate::sorts::{is_braces, is_colon, is_dot, is_semicolon, is_word};
@@ -38,10 +39,10 @@ fn last_dot(marks: &[Mark]) -> bool
     }
 }
 
-fn is_closure(blocks: &[u32], mark: &Mark) -> bool
-    ensures { result ≡ is_closure blocks.now mark.now }
+fn is_closure(blocks: Blocks, mark: &Mark) -> bool
+    ensures { result ≡ is_closure blocks.entry.starts.now mark.now }
 {
-    is_braces(mark) && !mark.first && !blocks.contains(&mark.start)
+    is_braces(mark) && !mark.first && !blocks.holds(mark.start)
 }
 
 fn use_angles(marks: &[Mark]) -> usize
@@ -57,8 +58,8 @@ fn use_angles(marks: &[Mark]) -> usize
 }
 
 /// Further closures: a word, a colon and braces on the same line.
-fn labels_length(blocks: &[u32], marks: &[Mark]) -> usize
-    ensures value { result ≡ labels_length blocks.now marks.now }
+fn labels_length(blocks: Blocks, marks: &[Mark]) -> usize
+    ensures value { result ≡ labels_length blocks.entry.starts.now marks.now }
     ensures bound { result ≤ length marks.now }
 {
     let mut rest = marks;
@@ -92,8 +93,8 @@ fn call_length(marks: &[Mark]) -> usize
 }
 
 /// How many elements the closures are that begin `marks`.
-fn closures_length(blocks: &[u32], before: &[Mark], marks: &[Mark]) -> usize
-    ensures value { result ≡ closures_length blocks.now (reverse before.now) marks.now }
+fn closures_length(blocks: Blocks, before: &[Mark], marks: &[Mark]) -> usize
+    ensures value { result ≡ closures_length blocks.entry.starts.now (reverse before.now) marks.now }
     ensures bound { result ≤ length marks.now }
 {
     match marks.first() {
@@ -105,8 +106,8 @@ fn closures_length(blocks: &[u32], before: &[Mark], marks: &[Mark]) -> usize
 }
 
 /// How many elements the use is that begins `marks`; 0 where none does.
-pub fn use_length(blocks: &[u32], before: &[Mark], marks: &[Mark]) -> usize
-    ensures value { result ≡ use_length blocks.now (reverse before.now) marks.now }
+pub fn use_length(blocks: Blocks, before: &[Mark], marks: &[Mark]) -> usize
+    ensures value { result ≡ use_length blocks.entry.starts.now (reverse before.now) marks.now }
     ensures bound { result ≤ length marks.now }
 {
     if !first_use(marks) {

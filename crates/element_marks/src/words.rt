@@ -1,7 +1,7 @@
 // The words with a meaning in the grammar of declarations: one row a word.
 
 ghost use Rattle.std.specs.Prelude.{◌≡◌};
-ghost use Rattle.std.specs.Prelude.{find};
+ghost use Rattle.std.specs.Prelude.{[], find, map, slice_index_or};
 ghost use Rattle.std.specs.List.{list_any};
 ghost use Rattle.std.specs.Option.{option_copied};
 ghost use Rattle.std.specs.Str.{bytes_eq};
@@ -141,12 +141,30 @@ pub const WORDS: [(&[u8], Keyword); 72] = [
     (b"throws", Keyword::Throws),
 ];
 
-/// The words of the table are no longer, and their first bytes are from `UNDERSCORE` to `LAST_LETTER`.
-pub const LONGEST_KEYWORD: usize = 20;
-
-pub const UNDERSCORE: u8 = b'_';
-
-pub const LAST_LETTER: u8 = b'z';
+/// With which bytes the words of the table begin, by their length.
+pub const FIRST_BYTES: [&[u8]; 21] = [
+    b"",
+    b"_",
+    b"ai",
+    b"fglstv",
+    b"cefilorw",
+    b"_acfgimw",
+    b"dimpst",
+    b"_dpuw",
+    b"imopr",
+    b"bcest",
+    b"",
+    b"_cdfn",
+    b"",
+    b"u",
+    b"a",
+    b"p",
+    b"",
+    b"",
+    b"",
+    b"",
+    b"u",
+];
 
 /// With what a name begins that only macros make.
 pub const RESERVED: &[u8] = b"$sX";
@@ -162,12 +180,22 @@ pub fn keyword_of(word: &[u8]) -> Keyword
     keyword_in(&WORDS, word)
 }
 
-/// Whether a word of the table can be as long as this one, and begin with the same byte.
+/// Whether a word of the table is as long as this one and begins with the same byte.
 fn looks_like_keyword(word: &[u8]) -> bool
     ensures { result ≡ looks_like_keyword word.now }
 {
     let first = word.first().copied().unwrap_or(0);
-    UNDERSCORE <= first && first <= LAST_LETTER && word.len() <= LONGEST_KEYWORD
+    row_at(&FIRST_BYTES, word.len()).contains(&first)
+}
+
+/// The row at a place; past the last, an empty one.
+fn row_at<'a>(rows: &'a [&'a [u8]], place: usize) -> &'a [u8]
+    ensures { result.now ≡ slice_index_or (map (λ row. row.now) rows.now) place [] }
+{
+    match rows.get(place) {
+        Some(row) => row,
+        None => b"",
+    }
 }
 
 fn keyword_in(rows: &[(&[u8], Keyword)], word: &[u8]) -> Keyword
