@@ -7,7 +7,7 @@ ghost use Rattle.decl_parser.specs.Found.{found_from, found_in, found_step, join
 use crate::attributes::{attr_of, copy_of, use_of};
 use crate::inside::{Inside, first_locals, first_uses};
 use crate::lists::{add, behind, upto};
-use element_marks::{Mark, attribute_length, use_length};
+use element_marks::{Blocks, Mark, attribute_length, use_length};
 use std::alloc::{AllocError, Global};
 use swift_tree::{Attr, MacroUse};
 
@@ -21,7 +21,7 @@ pub struct Findings {
 
 /// Where is looked for what.
 #[derive(Clone, Copy)]
-pub struct Search<'a> {
+pub struct Search<'a, 'b> {
     /// The elements, up to the last that is looked through.
     pub list: &'a [Mark],
     /// The place of the first that is looked through.
@@ -29,7 +29,7 @@ pub struct Search<'a> {
     /// Attributes that begin before this place are the declaration's own.
     pub own: usize,
     /// Where the braces begin that are blocks of the declaration.
-    pub blocks: &'a [u32],
+    pub blocks: Blocks<'b>,
     /// What stands inside the elements that are looked through.
     pub insides: &'a [Inside],
 }
@@ -37,7 +37,7 @@ pub struct Search<'a> {
 /// What is found in the last elements of a list.
 pub fn found(alloc: Global, search: Search) -> Result<Findings, AllocError>
     requires { search.from ≤ length search.list.now }
-    ensures { IfOk result (λ findings. seen findings ≡ found_from search.entry.blocks.now search.entry.own search.entry.list.now search.entry.from 0 (length search.entry.list.now - search.entry.from) search.entry.insides.now) }
+    ensures { IfOk result (λ findings. seen findings ≡ found_from search.entry.blocks.starts.now search.entry.own search.entry.list.now search.entry.from 0 (length search.entry.list.now - search.entry.from) search.entry.insides.now) }
 {
     let mut findings = Findings {
         attrs: Vec::new(alloc),
@@ -62,7 +62,7 @@ pub fn found_in(alloc: Global, marks: &[Mark], insides: &[Inside]) -> Result<Fin
             list: marks,
             from: 0,
             own: 0,
-            blocks: &[],
+            blocks: Blocks::new(&[]),
             insides,
         },
     )
@@ -77,8 +77,8 @@ fn step(
 ) -> Result<usize, AllocError>
     requires reached { search.from ≤ at }
     requires inside { at < length search.list.now }
-    ensures more { IfOk result (λ length. length ≡ suc (found_step search.entry.blocks.now search.entry.own search.entry.list.now at (drop (at - search.entry.from) search.entry.insides.now)).more) }
-    ensures found { OnOk result (seen findings.new ≡ joined (seen findings.old) (found_step search.entry.blocks.now search.entry.own search.entry.list.now at (drop (at - search.entry.from) search.entry.insides.now)).found) }
+    ensures more { IfOk result (λ length. length ≡ suc (found_step search.entry.blocks.starts.now search.entry.own search.entry.list.now at (drop (at - search.entry.from) search.entry.insides.now)).more) }
+    ensures found { OnOk result (seen findings.new ≡ joined (seen findings.old) (found_step search.entry.blocks.starts.now search.entry.own search.entry.list.now at (drop (at - search.entry.from) search.entry.insides.now)).found) }
     ensures bound { IfOk result (λ count. at + count ≤ length search.entry.list.now) }
 {
     let marks = behind(search.list, at);

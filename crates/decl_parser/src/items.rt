@@ -18,8 +18,8 @@ use crate::lists::{add, behind, upto};
 use crate::parts::{Parts, has_members, parts_of};
 use crate::place::{Place, has_place};
 use element_marks::{
-    Keyword, Mark, Starter, before_braces, is_builtin_pound, is_pound, is_semicolon, item_length,
-    marks_in, use_length,
+    Blocks, Keyword, Mark, Starter, before_braces, is_builtin_pound, is_pound, is_semicolon,
+    item_length, marks_in, use_length,
 };
 use std::alloc::{AllocError, Global};
 use swift_base::{Listed, Refusal, Span};
@@ -278,7 +278,7 @@ fn use_ends(starter: &Mark, list: &[Mark], from: usize) -> Result<(), Refusal<Pa
         return Ok(());
     }
     let own = behind(list, from);
-    nothing_more(behind(own, use_length(&[], upto(list, from), own)))
+    nothing_more(behind(own, use_length(Blocks::new(&[]), upto(list, from), own)))
 }
 
 /// Nothing stands behind the braces at the place.
@@ -346,7 +346,7 @@ fn assembled(
             list: own.list,
             from: own.from,
             own: own.from + head_of(marks),
-            blocks: parts.blocks.items(),
+            blocks: Blocks::new(parts.blocks.items()),
             insides,
         },
     )?;

@@ -11,7 +11,7 @@ returns-then-own-gt0-clause-found c =
     let marks = drop c.args.at c.args.search.list.now in
     let before = reverse (take c.args.at c.args.search.list.now) in
     let insides = drop (c.args.at - c.args.search.from) c.args.search.insides.now in
-    let blocks = c.args.search.blocks.now in
+    let blocks = c.args.search.blocks.starts.now in
     let findings = c.args.findings.now in
     let used : c.use_length-used.result ≡ use_length blocks before marks =
     c.use_length-used.ensures.value ∙ ap (λ l. use_length blocks (reverse l) c.behind-marks.result.now) c.upto.ensures ∙ ap (use_length blocks before) c.behind-marks.ensures in
@@ -28,7 +28,7 @@ returns-clause-found c =
     let marks = drop c.args.at c.args.search.list.now in
     let before = reverse (take c.args.at c.args.search.list.now) in
     let insides = drop (c.args.at - c.args.search.from) c.args.search.insides.now in
-    let blocks = c.args.search.blocks.now in
+    let blocks = c.args.search.blocks.starts.now in
     let findings = c.args.findings.now in
     let used : c.use_length-used.result ≡ use_length blocks before marks =
     c.use_length-used.ensures.value ∙ ap (λ l. use_length blocks (reverse l) c.behind-marks.result.now) c.upto.ensures ∙ ap (use_length blocks before) c.behind-marks.ensures in

@@ -20,7 +20,7 @@ returns c =
     let end : c.after.result ≡ after (span_from (drop from list)).end c.args.next.now = c.after.ensures ∙ ap (λ s. after s.end c.args.next.now) span in
     let head : c.head_of.result ≡ head_of (drop from list) = c.head_of.ensures.value ∙ ap head_of marks in
     let found : seen c.in_ok-attrs.field-0 ≡ found_from parts.blocks (from + head_of (drop from list)) list from 0 (length list - from) c.args.insides.now =
-    c.in_ok-attrs.ensures ∙ ap (λ b. found_from b (from + c.head_of.result) list from 0 (length list - from) c.args.insides.now) c.items.ensures ∙ ap (λ h. found_from parts.blocks (from + h) list from 0 (length list - from) c.args.insides.now) head in
+    c.in_ok-attrs.ensures ∙ ap (λ b. found_from b (from + c.head_of.result) list from 0 (length list - from) c.args.insides.now) (c.new.ensures.starts ∙ c.items.ensures) ∙ ap (λ h. found_from parts.blocks (from + h) list from 0 (length list - from) c.args.insides.now) head in
     let attrs : c.from_vec.result ≡ (found_from parts.blocks (from + head_of (drop from list)) list from 0 (length list - from) c.args.insides.now).attrs = c.from_vec.ensures ∙ ap (λ f. f.attrs) found in
     let uses : c.from_vec-2.result ≡ (found_from parts.blocks (from + head_of (drop from list)) list from 0 (length list - from) c.args.insides.now).uses = c.from_vec-2.ensures ∙ ap (λ f. f.uses) found in
     let locals : c.from_vec-3.result ≡ (found_from parts.blocks (from + head_of (drop from list)) list from 0 (length list - from) c.args.insides.now).locals = c.from_vec-3.ensures ∙ ap (λ f. f.locals) found in
