@@ -19,11 +19,8 @@ use Rattle.decl_parser.specs.Insides.{block_here}
 use Rattle.decl_parser.specs.Bindings.{has_observers, with_initializer, blocked, without_initializer, by_equals, tail_of, binding_of, bindings_from, type_before}
 use Rattle.decl_parser.specs.Parts.{with_members, of_type, extending, of_extension, with_body, code, first_name, function_name, case_names, last_block, named, of_variable, parts, has_members}
 use Rattle.decl_parser.specs.Nesting.{Between}
-use Rattle.decl_parser.proofs.Ordered.{InOrder, bounds, lies_take, lies_drop}
+use Rattle.decl_parser.proofs.Ordered.{InOrder, mark_lies, lies_take, lies_drop}
 use Rattle.decl_parser.proofs.Outcomes.{OkHolds, ok_then, ok_if, ok_at}
-
-pub mark_between : (from to : ℕ) (mark : Mark) (marks : List Mark) → InOrder from (mark ∷ marks) to → Between from to (span_of mark)
-mark_between from to mark marks lies = record { begins = lies.0; some = lies.1.some; ends = bounds mark.end to marks lies.2 }
 
 abbrev pub BlockBetween : ℕ → ℕ → Option BlockAt → Type 0
 BlockBetween from to None = Unit {0}
@@ -44,7 +41,7 @@ BlockFits false from to marks parts = BlockBetween from to parts.block
 module _ (from to : ℕ) where
   block_here_lies : (may_list : Bool) (marks : List Mark) (insides : List Inside) → InOrder from marks to → BlockBetween from to (block_here may_list marks insides)
   block_here_lies may_list [] insides lies = tt
-  block_here_lies may_list (braces ∷ marks) insides lies = mark_between from to braces marks lies
+  block_here_lies may_list (braces ∷ marks) insides lies = mark_lies from to braces marks lies
 
   abbrev TailFits : Tail → Type 0
   TailFits tail = BlockBetween from to tail.block
@@ -56,7 +53,7 @@ module _ (from to : ℕ) where
 
   blocked_fits : (type_span : Option Span) (marks : List Mark) (insides : List Inside) → InOrder from marks to → OkHolds TailFits (blocked type_span marks insides)
   blocked_fits type_span [] insides lies = tt
-  blocked_fits type_span (block ∷ marks) insides lies = ok_if TailFits (is_braces block && length marks == 0) _ _ (λ is. mark_between from to block marks lies) (λ is. tt)
+  blocked_fits type_span (block ∷ marks) insides lies = ok_if TailFits (is_braces block && length marks == 0) _ _ (λ is. mark_lies from to block marks lies) (λ is. tt)
 
   uninitialized : (marks : List Mark) (insides : List Inside) → InOrder from marks to → OkHolds TailFits (without_initializer marks insides)
   uninitialized [] insides lies = tt
@@ -109,7 +106,7 @@ module _ (from to : ℕ) where
 
   body_fits : (may_list : Bool) (name : Span) (place : ℕ) (marks : List Mark) (insides : List Inside) → InOrder from marks to → PlainFits (with_body may_list name place marks insides)
   body_fits may_list name place [] insides lies = tt
-  body_fits may_list name place (braces ∷ marks) insides lies = mark_between from to braces marks lies
+  body_fits may_list name place (braces ∷ marks) insides lies = mark_lies from to braces marks lies
 
   code_fits : (may_list : Bool) (name : Span) (marks : List Mark) (insides : List Inside) → InOrder from marks to → PlainFits (code may_list name marks insides)
   code_fits may_list name marks insides lies =

@@ -105,7 +105,7 @@ pound_bytes : (of_class : Class) (bytes : List ℕ) → of_class ≡ class.Pound
 pound_bytes of_class bytes is token =
     omega (arith, pound_characters token.characters (subst (λ c. Spells c token.characters) is token.spelled), length-le-encodes token.characters, ap length token.encoded)
 
-both_left : (a b : Bool) → (a && b) ≡ true → a ≡ true
+pub both_left : (a b : Bool) → (a && b) ≡ true → a ≡ true
 both_left true b is = refl
 both_left false b is = cc
 

@@ -7,7 +7,7 @@ use Rattle.swift_tree.specs.declared.item.Kind.{Kind}
 use Rattle.swift_tree.specs.Outlines.{ItemSeen, items_from}
 use Rattle.element_marks.specs.declared.mark.Mark.{Mark}
 use Rattle.element_marks.specs.Sorts.{is_semicolon, is_braces}
-use Rattle.element_marks.specs.Spans.{end_of}
+use Rattle.element_marks.specs.Spans.{span_of, end_of}
 use Rattle.element_marks.specs.Heads.{first_is}
 use Rattle.element_marks.specs.Runs.{before}
 use Rattle.decl_parser.specs.declared.place.Place.{Place}
@@ -18,12 +18,14 @@ use Rattle.decl_parser.specs.Insides.{nothing_inside}
 use Rattle.decl_parser.specs.Attributes.{span_from}
 use Rattle.decl_parser.specs.Found.{Found, found_from}
 use Rattle.decl_parser.specs.Parts.{parts, has_members}
-use Rattle.decl_parser.specs.Cut.{MembersRead, after, all_ends, assembled, beginning, block_of, count_of, cut_from, first_members, head_of, item_at, items_in, kind_of, members_at, members_place, one_item, whole_item, without}
-use Rattle.decl_parser.specs.Nesting.{UsesLie, ItemLies, BlockLies, ItemsLie, after_of}
+use Rattle.decl_parser.specs.Places.{has_place}
+use Rattle.decl_parser.specs.Cut.{MembersRead, after, all_ends, assembled, beginning, block_of, count_of, cut_from, first_members, head_of, item_at, items_in, kind_of, members_at, members_place, one_item, whole_item, without, placed, starter_of, start_of, use_fits}
+use Rattle.decl_parser.specs.Nesting.{Between, ItemLies, BlockLies, ItemsLie, after_of}
 use Rattle.decl_parser.proofs.Outcomes.{OkHolds, ok_then, ok_if, ok_at}
-use Rattle.decl_parser.proofs.Ordered.{InOrder, Beside, bounds, earlier, lies_take, lies_drop, lies_closely, lies_behind, lies_past, past_semicolon, has_at, beside_none, beside_take, beside_drop}
-use Rattle.decl_parser.proofs.UsesInOrder.{InsideLies, found_lies}
-use Rattle.decl_parser.proofs.BlocksInOrder.{BlockBetween, BlockFits, mark_between, parts_fit}
+use Rattle.decl_parser.proofs.Ordered.{InOrder, Beside, mark_lies, bounds, earlier, lies_take, lies_drop, lies_closely, lies_behind, lies_past, past_semicolon, has_at, beside_none, beside_take, beside_drop}
+use Rattle.decl_parser.proofs.FoundInOrder.{InsideLies, FoundLies, found_lies}
+use Rattle.decl_parser.proofs.PartsInOrder.{PartsFit, parts_lie}
+use Rattle.decl_parser.proofs.BlocksInOrder.{BlockBetween, BlockFits, parts_fit}
 
 -- members lie between the braces of their group
 abbrev pub MembersLie : ℕ → MembersRead → ℕ → Type 0
@@ -45,15 +47,15 @@ block_lies true whole head own parts members inner lies holds fits found =
     let here : drop place own ≡ fits.braces ∷ fits.others = sym (drop-drop (before is_braces (drop head own)) head own) ∙ fits.here in
     let first : InOrder whole.start (fits.braces ∷ fits.others) whole.end = subst (λ l. InOrder whole.start l whole.end) here (lies_drop place whole.start whole.end own lies) in
     let beside : Beside MembersLie (fits.braces ∷ fits.others) (drop place members) = subst (λ l. Beside MembersLie l (drop place members)) here (beside_drop MembersLie place own members holds) in
-    let braced : BlockLies whole (block_of (Some (record { span = record { start = fits.braces.start; end = fits.braces.end }; shape = shape.Members })) inner) = (mark_between whole.start whole.end fits.braces fits.others first, first_members_lie fits.braces fits.others (drop place members) inner beside found) in
+    let braced : BlockLies whole (block_of (Some (record { span = record { start = fits.braces.start; end = fits.braces.end }; shape = shape.Members })) inner) = (mark_lies whole.start whole.end fits.braces fits.others first, first_members_lie fits.braces fits.others (drop place members) inner beside found) in
     subst (λ b. BlockLies whole (block_of b inner)) (sym fits.block) braced
 
 -- what stands inside the members' braces is left out
 replaced : (place : ℕ) (marks : List Mark) (insides : List Inside) → Beside InsideLies marks insides → Beside InsideLies marks (take place insides ++ (nothing_inside ∷ drop 1 (drop place insides)))
 replaced place [] insides holds = tt
-replaced zero (mark ∷ marks) [] holds = (tt, beside_none InsideLies marks)
-replaced zero (mark ∷ marks) (inside ∷ insides) holds = (tt, holds.1)
-replaced (suc place) (mark ∷ marks) [] holds = (tt, beside_none InsideLies marks)
+replaced zero (mark ∷ marks) [] holds = (record { names = tt; uses = tt; locals = tt }, beside_none InsideLies marks)
+replaced zero (mark ∷ marks) (inside ∷ insides) holds = (record { names = tt; uses = tt; locals = tt }, holds.1)
+replaced (suc place) (mark ∷ marks) [] holds = (record { names = tt; uses = tt; locals = tt }, beside_none InsideLies marks)
 replaced (suc place) (mark ∷ marks) (inside ∷ insides) holds = (holds.0, replaced place marks insides holds.1)
 
 beside_without : (place : Option ℕ) (marks : List Mark) (insides : List Inside) → Beside InsideLies marks insides → Beside InsideLies marks (without place insides)
@@ -69,17 +71,45 @@ has_beginning : (place : Place) (own : List Mark) (starter : Mark) → beginning
 has_beginning place [] starter is = cc
 has_beginning place (mark ∷ marks) starter is = omega arith
 
+-- the starter is one of its elements
+placed_lies : (place : Place) (start from to : ℕ) (marks : List Mark) → InOrder from marks to → OkHolds (λ starter. Between from to (span_of starter)) (placed place start marks)
+placed_lies place start from to [] lies = tt
+placed_lies place start from to (starter ∷ marks) lies = ok_if (λ starter. Between from to (span_of starter)) (has_place place (kind_of starter)) _ _ (λ is. mark_lies from to starter marks lies) (λ is. tt)
+
+starter_lies : (place : Place) (from to : ℕ) (own : List Mark) → InOrder from own to → OkHolds (λ starter. Between from to (span_of starter)) (beginning place own)
+starter_lies place from to own lies =
+    let P : Mark → Type 0 = λ starter. Between from to (span_of starter) in
+    let n = head_of own - 1 in
+    ok_then P (starter_of place own) _ (λ starter is. ok_then P (use_fits (head_of own) starter) _ (λ fits_ fit. ok_at P (starter_of place own) starter is (placed_lies place (start_of own) from to (drop n own) (lies_drop n from to own lies))))
+
 -- a declaration lies between the two places, and ends where it should
 abbrev pub ItemFits : ℕ → ℕ → List Mark → List Mark → ItemSeen → Type 0
 ItemFits from to own next seen = ItemLies from seen to × (after_of seen ≡ after (end_of from own) next)
 
 assembled_fits : (from to : ℕ) (own next : List Mark) (kind : Kind) (parts : Parts) (found : Found) (inner : List ItemSeen) → 0 < length own → InOrder from own (end_of from own) → InOrder (end_of from own) next to
-    → UsesLie (span_from own).start found.uses (span_from own).end → BlockLies (span_from own) (block_of parts.block inner) → ItemFits from to own next (assembled (span_from own) next kind parts found inner)
-assembled_fits from to [] next kind parts found inner some lies behind uses block = absurd (omega (arith, some))
-assembled_fits from to (mark ∷ marks) next kind parts found inner some lies behind uses block =
+    → PartsFit (span_from own).start (span_from own).end parts → FoundLies (span_from own).start (span_from own).end found → BlockLies (span_from own) (block_of parts.block inner) → ItemFits from to own next (assembled (span_from own) next kind parts found inner)
+assembled_fits from to [] next kind parts found inner some lies behind named found_ block = absurd (omega (arith, some))
+assembled_fits from to (mark ∷ marks) next kind parts found inner some lies behind named found_ block =
     let end = end_of mark.end marks in
-    let passed = lies_past end to next behind in
-    ((record { begins = lies.0; some = omega (arith, lies.1.some, bounds mark.end end marks lies.2); behind = passed.0; ends = passed.1; uses = uses }, block), refl)
+    let passed = lies_past end to next behind in (
+      (
+        record {
+          begins = lies.0;
+          some = omega (arith, lies.1.some, bounds mark.end end marks lies.2);
+          behind = passed.0;
+          ends = passed.1;
+          attrs = found_.attrs;
+          names = named.names;
+          bindings = named.bindings;
+          inherits = named.inherits;
+          extended = named.extended;
+          uses = found_.uses;
+          locals = found_.locals;
+        },
+        block,
+      ),
+      refl,
+    )
 
 module _ (place : Place) (list : List Mark) (at : ℕ) (next : List Mark) (insides : List Inside) (members : List MembersRead) (from to : ℕ) where
   pub item_fits : InOrder from (drop at list) (end_of from (drop at list)) → InOrder (end_of from (drop at list)) next to → Beside InsideLies (drop at list) insides → Beside MembersLie (drop at list) members
@@ -99,6 +129,7 @@ module _ (place : Place) (list : List Mark) (at : ℕ) (next : List Mark) (insid
       ok_then P (members_at braces members) _ (λ inner found.
       ok_then P (all_ends read.body starter list at) _ (λ ended ends.
       assembled_fits from to own next (kind_of starter) read (found_from read.blocks (at + head) list at 0 (length list - at) outside) inner some lies behind
+      (ok_at (PartsFit whole.start whole.end) (parts (kind_of starter) starter (drop head own) (drop head outside)) read is (parts_lie whole.start whole.end (kind_of starter) starter (drop head own) (drop head outside) (ok_at (λ one. Between whole.start whole.end (span_of one)) (beginning place own) starter begun (starter_lies place whole.start whole.end own closely)) (lies_drop head whole.start whole.end own closely) (beside_drop InsideLies head own outside (beside_without braces own insides inside_holds))))
       (found_lies read.blocks (at + head) list whole.end at 0 (length list - at) outside whole.start (omega (arith, some, length-drop at list)) (let here : at ≡ at + 0 = omega arith in subst (λ n. InOrder whole.start (drop n list) whole.end) here closely) (beside_without braces own insides inside_holds))
       (block_lies (has_members (kind_of starter)) whole head own read members inner closely members_hold
       (ok_at (BlockFits (has_members (kind_of starter)) whole.start whole.end (drop head own)) (parts (kind_of starter) starter (drop head own) (drop head outside)) read is (parts_fit whole.start whole.end (kind_of starter) starter (drop head own) (drop head outside) (lies_drop head whole.start whole.end own closely)))
