@@ -1,7 +1,9 @@
 -- The macro uses and the attributes in elements, one behind the other.
-use Rattle.std.proofs.Common.{◌≡◌, refl, sym, ap, subst, arith, ◌∙◌, ℕ, zero, suc, ◌+◌, ◌-◌, ◌≤◌, ◌==◌, List, [], ◌∷◌, ◌++◌, length, take, drop, append_assoc, Option, Some, None, Bool, true, false, ◌&&◌, if◌then◌else◌}
+use Rattle.std.proofs.Common.{◌≡◌, ◌⊎◌, inl, inr, refl, sym, ap, subst, arith, ◌∙◌, ℕ, zero, suc, ◌+◌, ◌-◌, ◌≤◌, ◌==◌, List, [], ◌∷◌, ◌++◌, length, take, drop, append_assoc, Option, Some, None, Bool, true, false, ◌&&◌, if◌then◌else◌}
 use Rattle.std.specs.Prelude.{nat_lt, reverse}
+use Rattle.std.specs.List.{All}
 use Rattle.std.proofs.lemmas.List.{drop-drop}
+use Rattle.std.proofs.lemmas.List.Elements.{All-append, All-cons, All-head, All-nil, All-tail}
 use Rattle.swift_base.specs.declared.place.Span.{Span}
 use Rattle.swift_tree.specs.declared.item.MacroUse.{MacroUse}
 use Rattle.swift_tree.specs.declared.item.Attr.{Attr}
@@ -14,7 +16,7 @@ use Rattle.decl_parser.specs.declared.inside.Inside.{Inside}
 use Rattle.decl_parser.specs.Insides.{first_inside}
 use Rattle.decl_parser.specs.Attributes.{span_from, use_of, attr_of, attribute_name, args_place, args_span, args_uses}
 use Rattle.decl_parser.specs.Found.{Found, Step, local_attributes, found_step, found_from, found_in}
-use Rattle.decl_parser.specs.Nesting.{Between, MayLie, PartsLie, UseLies, UsesLie, AttrLies, AttrsLie, LocalsLie}
+use Rattle.decl_parser.specs.Nesting.{Between, MayLie, PartsLie, UseLies, UsesLie, AttrLies, AttrsLie, LocalsLie, Apart, AllApart}
 use Rattle.decl_parser.proofs.Wider.{between_wider, may_wider, uses_wider, uses_join, attrs_join, locals_wider, locals_join}
 use Rattle.decl_parser.proofs.Ordered.{InOrder, Beside, has_at, bounds, name_lies, end_grows, end_more, end_at, lies_take, lies_behind, beside_drop}
 
@@ -142,6 +144,7 @@ record StepLies (from to : ℕ) (rest : List Mark) (step : Step) : Type 0 where
   uses : UsesLie from step.found.uses middle
   attrs : AttrsLie from step.found.attrs middle
   locals : (others : List Attr) → LocalsLie middle others to → LocalsLie from (step.found.locals ++ others) to
+  one_kind : (step.found.attrs ≡ []) ⊎ (step.found.uses ≡ [])
   behind : InOrder middle (drop step.more rest) to
 
 -- by how many elements a use has, and an attribute of the declaration's own
@@ -180,6 +183,7 @@ step_lies zero zero from to mark marks insides uses attributes lies holds = reco
   uses = inside_uses from mark marks insides lies.0 holds;
   attrs = tt;
   locals = locals_here from to mark marks insides lies holds;
+  one_kind = inl refl;
   behind = lies.2;
 }
 step_lies zero (suc more) from to mark marks insides uses attributes lies holds =
@@ -190,6 +194,7 @@ step_lies zero (suc more) from to mark marks insides uses attributes lies holds 
       first = first;
       uses = tt;
       attrs = ((attr_lies from to more mark marks insides (attributes more refl) lies holds).0, tt);
+      one_kind = inr refl;
       locals = λ others further. locals_wider from middle to to others first (omega arith) further;
       behind = lies_behind more mark.end to marks lies.2;
     }
@@ -201,6 +206,7 @@ step_lies (suc more) attribute from to mark marks insides uses attributes lies h
       first = first;
       uses = (use_lies from to more mark marks (uses more refl) lies, tt);
       attrs = tt;
+      one_kind = inl refl;
       locals = λ others further. locals_wider from middle to to others first (omega arith) further;
       behind = lies_behind more mark.end to marks lies.2;
     }
@@ -214,9 +220,47 @@ pub record FoundLies (from to : ℕ) (found : Found) : Type 0 where
   pub attrs : AttrsLie from found.attrs to
   pub uses : UsesLie from found.uses to
   pub locals : LocalsLie from found.locals to
+  pub apart : AllApart found.attrs found.uses
+
+-- what ends before uses begin is apart from them
+uses_behind : (from to : ℕ) (part : Span) (uses : List MacroUse) → part.end ≤ from → UsesLie from uses to → All (λ use_. Apart part use_.span) uses
+uses_behind from to part [] less lies = All-nil (λ use_. Apart part use_.span)
+uses_behind from to part (first ∷ others) less lies =
+    let between = lies.0.between in
+    All-cons (λ use_. Apart part use_.span) first others (inl (omega (arith, less, between.begins))) (uses_behind first.span.end to part others (omega (arith, less, between.begins, between.some)) lies.1)
+
+uses_before : (from to : ℕ) (part : Span) (uses : List MacroUse) → to ≤ part.start → UsesLie from uses to → All (λ use_. Apart part use_.span) uses
+uses_before from to part [] less lies = All-nil (λ use_. Apart part use_.span)
+uses_before from to part (first ∷ others) less lies =
+    All-cons (λ use_. Apart part use_.span) first others (inr (omega (arith, less, lies.0.between.ends))) (uses_before first.span.end to part others less lies.1)
+
+attrs_before : (from middle to : ℕ) (attrs : List Attr) (uses : List MacroUse) → AttrsLie from attrs middle → UsesLie middle uses to → AllApart attrs uses
+attrs_before from middle to [] uses lies further = All-nil (λ attr. All (λ use_. Apart attr.span use_.span) uses)
+attrs_before from middle to (first ∷ others) uses lies further =
+    All-cons (λ attr. All (λ use_. Apart attr.span use_.span) uses) first others (uses_behind middle to first.span uses lies.0.between.ends further) (attrs_before first.span.end middle to others uses lies.1 further)
+
+attrs_behind : (from middle at to : ℕ) (attrs : List Attr) (uses : List MacroUse) → middle ≤ at → UsesLie from uses middle → AttrsLie at attrs to → AllApart attrs uses
+attrs_behind from middle at to [] uses less lies further = All-nil (λ attr. All (λ use_. Apart attr.span use_.span) uses)
+attrs_behind from middle at to (first ∷ others) uses less lies further =
+    let between = further.0.between in
+    All-cons (λ attr. All (λ use_. Apart attr.span use_.span) uses) first others (uses_before from middle first.span uses (omega (arith, less, between.begins)) lies) (attrs_behind from middle first.span.end to others uses (omega (arith, less, between.begins, between.some)) lies further.1)
+
+more_uses : (attrs : List Attr) (uses others : List MacroUse) → AllApart attrs uses → AllApart attrs others → AllApart attrs (uses ++ others)
+more_uses [] uses others first second = All-nil (λ attr. All (λ use_. Apart attr.span use_.span) (uses ++ others))
+more_uses (attr ∷ attrs) uses others first second =
+    let P : List MacroUse → Attr → Type 0 = λ uses attr. All (λ use_. Apart attr.span use_.span) uses in
+    All-cons (P (uses ++ others)) attr attrs (All-append (λ use_. Apart attr.span use_.span) uses others (All-head (P uses) attr attrs first) (All-head (P others) attr attrs second))
+    (more_uses attrs uses others (All-tail (P uses) attr attrs first) (All-tail (P others) attr attrs second))
+
+-- attributes or uses, and then others of both
+apart_join : (from middle to : ℕ) (attrs more_attrs : List Attr) (uses others : List MacroUse) → (attrs ≡ []) ⊎ (uses ≡ []) → AttrsLie from attrs middle → UsesLie from uses middle → AttrsLie middle more_attrs to → UsesLie middle others to → AllApart more_attrs others → AllApart (attrs ++ more_attrs) (uses ++ others)
+apart_join from middle to attrs more_attrs uses others (inl none) attrs_lie uses_lie more_lie others_lie apart =
+    subst (λ l. AllApart (l ++ more_attrs) (uses ++ others)) (sym none) (more_uses more_attrs uses others (attrs_behind from middle middle to more_attrs uses (omega arith) uses_lie more_lie) apart)
+apart_join from middle to attrs more_attrs uses others (inr none) attrs_lie uses_lie more_lie others_lie apart =
+    subst (λ l. AllApart (attrs ++ more_attrs) (l ++ others)) (sym none) (All-append (λ attr. All (λ use_. Apart attr.span use_.span) others) attrs more_attrs (attrs_before from middle to attrs others attrs_lie others_lie) apart)
 
 pub found_lies : (blocks : List ℕ) (own : ℕ) (list : List Mark) (to at inside left : ℕ) (insides : List Inside) (from : ℕ) → at + left ≤ length list → InOrder from (drop (at + inside) list) to → Beside InsideLies (drop at list) insides → FoundLies from to (found_from blocks own list at inside left insides)
-found_lies blocks own list to at inside zero insides from within lies holds = record { attrs = tt; uses = tt; locals = tt }
+found_lies blocks own list to at inside zero insides from within lies holds = record { attrs = tt; uses = tt; locals = tt; apart = All-nil (λ attr. All (λ use_. Apart attr.span use_.span) []) }
 found_lies blocks own list to at (suc inside) (suc left) insides from within lies holds =
     let here = has_at list at (omega (arith, within)) in
     let same : at + suc inside ≡ suc at + inside = omega arith in
@@ -244,6 +288,7 @@ found_lies blocks own list to at zero (suc left) insides from within lies holds 
       attrs = attrs_join from step.middle to now.attrs rest.attrs step.first last step.attrs further.attrs;
       uses = uses_join from step.middle to now.uses rest.uses step.first last step.uses further.uses;
       locals = step.locals rest.locals further.locals;
+      apart = apart_join from step.middle to now.attrs rest.attrs now.uses rest.uses step.one_kind step.attrs step.uses further.attrs further.uses further.apart;
     }
 
 pub found_in_lies : (from to : ℕ) (marks : List Mark) (insides : List Inside) → InOrder from marks to → Beside InsideLies marks insides → FoundLies from to (found_in marks insides)

@@ -105,6 +105,7 @@ assembled_fits from to (mark ∷ marks) next kind parts found inner some lies be
           extended = named.extended;
           uses = found_.uses;
           locals = found_.locals;
+          apart = found_.apart;
         },
         block,
       ),

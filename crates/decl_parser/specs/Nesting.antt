@@ -1,5 +1,5 @@
 -- How declarations, and the parts of each, lie in their text: this project's own words.
-use Rattle.std.specs.Prelude.{◌≡◌, ℕ, ◌+◌, ◌-◌, ◌<◌, ◌≤◌, List, [], ◌∷◌, Option, None, Some}
+use Rattle.std.specs.Prelude.{◌≡◌, ℕ, ◌+◌, ◌-◌, ◌<◌, ◌≤◌, ◌⊎◌, List, [], ◌∷◌, All, Option, None, Some}
 use Rattle.swift_base.specs.declared.place.Span.{Span}
 use Rattle.swift_tree.specs.declared.item.MacroUse.{MacroUse}
 use Rattle.swift_tree.specs.declared.item.Attr.{Attr}
@@ -63,6 +63,14 @@ abbrev pub BindingsLie : ℕ → List Binding → ℕ → Type 0
 BindingsLie from [] to = Unit {0}
 BindingsLie from (first ∷ others) to = BindingLies from first × (first.end ≤ to) × BindingsLie first.end others to
 
+-- one of the two ends before the other begins
+abbrev pub Apart : Span → Span → Type 0
+Apart one other = (one.end ≤ other.start) ⊎ (other.end ≤ one.start)
+
+-- no use stands in one of the attributes, and none of these in a use
+abbrev pub AllApart : List Attr → List MacroUse → Type 0
+AllApart attrs uses = All (λ attr. All (λ use_. Apart attr.span use_.span) uses) attrs
+
 -- the declaration begins and ends between the two places, the `;` behind it included; its parts lie in it
 pub record HeadLies (from to : ℕ) (head : Head) : Type 0 where
   pub begins : from ≤ head.span.start
@@ -76,6 +84,7 @@ pub record HeadLies (from to : ℕ) (head : Head) : Type 0 where
   pub extended : MayLie head.span.start head.extended head.span.end
   pub uses : UsesLie head.span.start head.uses head.span.end
   pub locals : LocalsLie head.span.start head.locals head.span.end
+  pub apart : AllApart head.attrs head.uses
 
 abbrev pub after_of : ItemSeen → ℕ
 after_of (item head braces) = head.after
