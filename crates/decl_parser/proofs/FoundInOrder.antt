@@ -18,7 +18,7 @@ use Rattle.decl_parser.specs.Attributes.{span_from, use_of, attr_of, attribute_n
 use Rattle.decl_parser.specs.Found.{Found, Step, local_attributes, found_step, found_from, found_in}
 use Rattle.decl_parser.specs.Nesting.{Between, MayLie, PartsLie, UseLies, UsesLie, AttrLies, AttrsLie, LocalsLie, Apart, AllApart}
 use Rattle.decl_parser.proofs.Wider.{between_wider, may_wider, uses_wider, uses_join, attrs_join, locals_wider, locals_join}
-use Rattle.decl_parser.proofs.Ordered.{InOrder, Beside, has_at, bounds, name_lies, end_grows, end_more, end_at, lies_take, lies_behind, beside_drop}
+use Rattle.decl_parser.proofs.Ordered.{InOrder, Beside, HasAt, has_at, bounds, name_lies, end_grows, end_more, end_at, lies_take, lies_behind, beside_drop}
 
 -- what stands inside an element lies between its brackets
 pub record InsideLies (start : ℕ) (inside : Inside) (end : ℕ) : Type 0 where
@@ -36,7 +36,7 @@ inside_uses from mark marks insides less holds =
     uses_wider from (mark.start + 1) (mark.end - 1) mark.end (first_inside insides).uses (omega arith) (omega arith) (first_lies mark marks insides holds).uses
 
 -- a length that is not 0 comes from a test that passed
-passed : (test : Bool) (n more : ℕ) → (if test then suc n else 0) ≡ suc more → (test ≡ true) × (n ≡ more)
+pub passed : (test : Bool) (n more : ℕ) → (if test then suc n else 0) ≡ suc more → (test ≡ true) × (n ≡ more)
 passed true n more is = (refl, omega (arith, is))
 passed false n more is = absurd (omega (arith, is))
 
@@ -138,17 +138,17 @@ attr_lies from to more mark (name ∷ marks) insides is lies holds =
     (spanned (span_from (take (attribute_length list) list)) (ap (λ n. span_from (take n list)) (is ∙ ap suc (sym length_is))))
 
 -- what begins with the first element, and the elements behind it
-record StepLies (from to : ℕ) (rest : List Mark) (step : Step) : Type 0 where
-  middle : ℕ
-  first : from ≤ middle
-  uses : UsesLie from step.found.uses middle
-  attrs : AttrsLie from step.found.attrs middle
-  locals : (others : List Attr) → LocalsLie middle others to → LocalsLie from (step.found.locals ++ others) to
-  one_kind : (step.found.attrs ≡ []) ⊎ (step.found.uses ≡ [])
-  behind : InOrder middle (drop step.more rest) to
+pub record StepLies (from to : ℕ) (rest : List Mark) (step : Step) : Type 0 where
+  pub middle : ℕ
+  pub first : from ≤ middle
+  pub uses : UsesLie from step.found.uses middle
+  pub attrs : AttrsLie from step.found.attrs middle
+  pub locals : (others : List Attr) → LocalsLie middle others to → LocalsLie from (step.found.locals ++ others) to
+  pub one_kind : (step.found.attrs ≡ []) ⊎ (step.found.uses ≡ [])
+  pub behind : InOrder middle (drop step.more rest) to
 
 -- by how many elements a use has, and an attribute of the declaration's own
-abbrev step_by : ℕ → ℕ → List Mark → List Inside → Step
+abbrev pub step_by : ℕ → ℕ → List Mark → List Inside → Step
 step_by use_ attribute marks insides =
     by_length use_
     (by_length attribute
@@ -259,6 +259,17 @@ apart_join from middle to attrs more_attrs uses others (inl none) attrs_lie uses
 apart_join from middle to attrs more_attrs uses others (inr none) attrs_lie uses_lie more_lie others_lie apart =
     subst (λ l. AllApart (attrs ++ more_attrs) (l ++ others)) (sym none) (All-append (λ attr. All (λ use_. Apart attr.span use_.span) others) attrs more_attrs (attrs_before from middle to attrs others attrs_lie others_lie) apart)
 
+-- at a place in the list
+pub step_here : (blocks : List ℕ) (own : ℕ) (list : List Mark) (to at : ℕ) (insides : List Inside) (from : ℕ) (here : HasAt list at) → InOrder from (drop at list) to → Beside InsideLies (drop at list) insides → StepLies from to here.marks (found_step blocks own list at insides)
+step_here blocks own list to at insides from here lies holds =
+    let before = reverse (take at list) in
+    let use_ = use_length blocks before (drop at list) in
+    let attribute = if nat_lt at own then attribute_length (drop at list) else 0 in
+    let begins : (more : ℕ) → use_ ≡ suc more → is_use here.mark ≡ true = λ more is. use_begins blocks before here.mark here.marks more (ap (use_length blocks before) (sym here.here) ∙ is) in
+    let belongs : (more : ℕ) → attribute ≡ suc more → attribute_length (here.mark ∷ here.marks) ≡ suc more = λ more is. ap attribute_length (sym here.here) ∙ own_only (nat_lt at own) (attribute_length (drop at list)) more is in
+    subst (λ l. StepLies from to here.marks (step_by use_ attribute l insides)) (sym here.here)
+    (step_lies use_ attribute from to here.mark here.marks insides begins belongs (subst (λ l. InOrder from l to) here.here lies) (subst (λ l. Beside InsideLies l insides) here.here holds))
+
 pub found_lies : (blocks : List ℕ) (own : ℕ) (list : List Mark) (to at inside left : ℕ) (insides : List Inside) (from : ℕ) → at + left ≤ length list → InOrder from (drop (at + inside) list) to → Beside InsideLies (drop at list) insides → FoundLies from to (found_from blocks own list at inside left insides)
 found_lies blocks own list to at inside zero insides from within lies holds = record { attrs = tt; uses = tt; locals = tt; apart = All-nil (λ attr. All (λ use_. Apart attr.span use_.span) []) }
 found_lies blocks own list to at (suc inside) (suc left) insides from within lies holds =
@@ -270,13 +281,8 @@ found_lies blocks own list to at (suc inside) (suc left) insides from within lie
 found_lies blocks own list to at zero (suc left) insides from within lies holds =
     let here = has_at list at (omega (arith, within)) in
     let at_once : at + 0 ≡ at = omega arith in
-    let first_in_order : InOrder from (here.mark ∷ here.marks) to = subst (λ l. InOrder from l to) (ap (λ n. drop n list) at_once ∙ here.here) lies in
     let first_holds : Beside InsideLies (here.mark ∷ here.marks) insides = subst (λ l. Beside InsideLies l insides) here.here holds in
-    let use_ = use_length blocks (reverse (take at list)) (drop at list) in
-    let attribute = if nat_lt at own then attribute_length (drop at list) else 0 in
-    let begins : (more : ℕ) → use_ ≡ suc more → is_use here.mark ≡ true = λ more is. use_begins blocks (reverse (take at list)) here.mark here.marks more (ap (use_length blocks (reverse (take at list))) (sym here.here) ∙ is) in
-    let belongs : (more : ℕ) → attribute ≡ suc more → attribute_length (here.mark ∷ here.marks) ≡ suc more = λ more is. ap attribute_length (sym here.here) ∙ own_only (nat_lt at own) (attribute_length (drop at list)) more is in
-    let step : StepLies from to here.marks (found_step blocks own list at insides) = subst (λ l. StepLies from to here.marks (step_by use_ attribute l insides)) (sym here.here) (step_lies use_ attribute from to here.mark here.marks insides begins belongs first_in_order first_holds) in
+    let step = step_here blocks own list to at insides from here (subst (λ n. InOrder from (drop n list) to) at_once lies) holds in
     let now = (found_step blocks own list at insides).found in
     let more = (found_step blocks own list at insides).more in
     let behind : InOrder step.middle (drop (suc at + more) list) to = subst (λ l. InOrder step.middle l to) (ap (drop more) (sym here.behind) ∙ drop-drop more (suc at) list) step.behind in

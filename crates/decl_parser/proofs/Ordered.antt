@@ -6,7 +6,7 @@ use Rattle.swift_lexer.specs.declared.token.Token.{Token}
 use Rattle.swift_lexer.specs.Tiles.{IsTile, Chained, last_end, TokensTile}
 use Rattle.swift_lexer.specs.Trees.{Tree, leaf, nest, Forest, none, cons, tree_tokens, forest_tokens}
 use Rattle.element_marks.specs.declared.mark.Mark.{Mark}
-use Rattle.element_marks.specs.Sorts.{is_semicolon, is_quoted, is_use}
+use Rattle.element_marks.specs.Sorts.{is_semicolon, is_quoted, is_use, is_braces}
 use Rattle.element_marks.specs.Marks.{mark_of, mark_between}
 use Rattle.element_marks.specs.Spans.{span_of, between, name_of, end_of, whole}
 use Rattle.element_marks.specs.Heads.{with_joins, with_angles, with_modifiers, with_heads, in_list}
@@ -15,10 +15,13 @@ use Rattle.decl_parser.specs.Cut.{after}
 use Rattle.decl_parser.specs.Nesting.{Between, MayLie}
 use Rattle.decl_parser.proofs.ElementBytes.{MarkFits, element_fits}
 
+abbrev pub IsFit : Mark → Type 0
+IsFit mark = MarkFits mark.start mark.end (is_quoted mark) (is_use mark) mark.ends_angle (is_braces mark) mark.begins_angle mark.opens mark.closes
+
 -- the elements lie between the two places, each behind the one before
 abbrev pub InOrder : ℕ → List Mark → ℕ → Type 0
 InOrder from [] to = from ≤ to
-InOrder from (mark ∷ marks) to = (from ≤ mark.start) × MarkFits mark.start mark.end (is_quoted mark) (is_use mark) mark.ends_angle × InOrder mark.end marks to
+InOrder from (mark ∷ marks) to = (from ≤ mark.start) × IsFit mark × InOrder mark.end marks to
 
 pub bounds : (from to : ℕ) (marks : List Mark) → InOrder from marks to → from ≤ to
 bounds from to [] lies = lies
@@ -222,7 +225,7 @@ unfolding mark_between
 mark_end text (leaf token) = refl
 mark_end text (nest left inner right) = refl
 
-mark_fits : (text : List ℕ) (from : ℕ) (tree : Tree) → TreeInOrder text from tree → MarkFits (mark_of text tree).start (mark_of text tree).end (is_quoted (mark_of text tree)) (is_use (mark_of text tree)) (mark_of text tree).ends_angle
+mark_fits : (text : List ℕ) (from : ℕ) (tree : Tree) → TreeInOrder text from tree → IsFit (mark_of text tree)
 mark_fits text from (leaf token) lies = element_fits text token token.end lies.1 (omega arith)
 mark_fits text from (nest left inner right) lies = element_fits text left right.end lies.1 (omega (arith, forest_bounds text left.end right.start inner lies.2, lies.3.some))
 

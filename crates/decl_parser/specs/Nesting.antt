@@ -4,6 +4,8 @@ use Rattle.swift_base.specs.declared.place.Span.{Span}
 use Rattle.swift_tree.specs.declared.item.MacroUse.{MacroUse}
 use Rattle.swift_tree.specs.declared.item.Attr.{Attr}
 use Rattle.swift_tree.specs.declared.item.Binding.{Binding}
+use Rattle.swift_tree.specs.declared.item.BlockShape.{BlockShape}
+use Rattle.swift_tree.specs.declared.item.BlockShape.TheVariants.{Members}
 use Rattle.swift_tree.specs.Outlines.{Head, ItemSeen, item, BlockSeen, no_block, block, ItemsSeen, none, cons, OutlineSeen}
 
 -- the part holds a byte, and lies between the two places
@@ -89,14 +91,19 @@ pub record HeadLies (from to : ℕ) (head : Head) : Type 0 where
 abbrev pub after_of : ItemSeen → ℕ
 after_of (item head braces) = head.after
 
+-- the braces of members begin behind the macro uses
+abbrev pub StandsBehind : BlockShape → ℕ → List MacroUse → ℕ → Type 0
+StandsBehind Members from uses to = UsesLie from uses to
+StandsBehind _ from uses to = Unit {0}
+
 -- declarations lie between the two places, each behind the one before; the block of each lies in it, and its members between its braces
 abbrev mutual
   pub ItemLies : ℕ → ItemSeen → ℕ → Type 0
-  ItemLies from (item head braces) to = HeadLies from to head × BlockLies head.span braces
+  ItemLies from (item head braces) to = HeadLies from to head × BlockLies head.span head.uses braces
 
-  pub BlockLies : Span → BlockSeen → Type 0
-  BlockLies whole no_block = Unit {0}
-  BlockLies whole (block span shape members) = Between whole.start whole.end span × ItemsLie (span.start + 1) members (span.end - 1)
+  pub BlockLies : Span → List MacroUse → BlockSeen → Type 0
+  BlockLies whole uses no_block = Unit {0}
+  BlockLies whole uses (block span shape members) = Between whole.start whole.end span × StandsBehind shape whole.start uses span.start × ItemsLie (span.start + 1) members (span.end - 1)
 
   pub ItemsLie : ℕ → ItemsSeen → ℕ → Type 0
   ItemsLie from none to = Unit {0}
