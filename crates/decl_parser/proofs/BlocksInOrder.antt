@@ -1,6 +1,7 @@
 -- The block of a declaration is one of its elements.
-use Rattle.std.proofs.Common.{◌≡◌, refl, ℕ, zero, suc, ◌-◌, ◌==◌, List, [], ◌∷◌, length, take, drop, Option, Some, None, Bool, true, false, ◌&&◌}
+use Rattle.std.proofs.Common.{◌≡◌, refl, ℕ, zero, suc, ◌-◌, ◌==◌, List, [], ◌∷◌, length, take, drop, Option, Some, None, Bool, true, false, ◌&&◌, if◌then◌else◌}
 use Rattle.swift_base.specs.declared.place.Span.{Span}
+use Rattle.swift_tree.specs.declared.item.BlockShape.{BlockShape}
 use Rattle.swift_tree.specs.declared.item.BlockShape.TheVariants as shape
 use Rattle.swift_tree.specs.declared.item.Kind.{Kind}
 use Rattle.swift_tree.specs.declared.item.Kind.TheVariants as kind
@@ -15,19 +16,20 @@ use Rattle.decl_parser.specs.declared.inside.BlockAt.{BlockAt}
 use Rattle.decl_parser.specs.declared.parts.Parts.{Parts}
 use Rattle.decl_parser.specs.declared.bindings.Bound.{Bound}
 use Rattle.decl_parser.specs.declared.bindings.Tail.{Tail}
-use Rattle.decl_parser.specs.Insides.{block_here}
+use Rattle.decl_parser.specs.Insides.{first_inside, block_here}
 use Rattle.decl_parser.specs.Bindings.{has_observers, with_initializer, blocked, without_initializer, by_equals, tail_of, binding_of, bindings_from, type_before}
 use Rattle.decl_parser.specs.Parts.{with_members, of_type, extending, of_extension, with_body, code, first_name, function_name, case_names, last_block, named, of_variable, parts, has_members}
 use Rattle.decl_parser.specs.Nesting.{Between}
-use Rattle.decl_parser.proofs.Ordered.{InOrder, bounds, lies_take, lies_drop}
+use Rattle.decl_parser.proofs.Ordered.{InOrder, mark_lies, lies_take, lies_drop}
 use Rattle.decl_parser.proofs.Outcomes.{OkHolds, ok_then, ok_if, ok_at}
 
-pub mark_between : (from to : ℕ) (mark : Mark) (marks : List Mark) → InOrder from (mark ∷ marks) to → Between from to (span_of mark)
-mark_between from to mark marks lies = record { begins = lies.0; some = lies.1.some; ends = bounds mark.end to marks lies.2 }
+abbrev pub NotMembers : BlockShape → Type 0
+NotMembers shape.Members = ⊥
+NotMembers _ = Unit {0}
 
 abbrev pub BlockBetween : ℕ → ℕ → Option BlockAt → Type 0
 BlockBetween from to None = Unit {0}
-BlockBetween from to (Some at) = Between from to at.span
+BlockBetween from to (Some at) = Between from to at.span × NotMembers at.shape
 
 -- the members stand in the first braces
 pub record TypeBlock (marks : List Mark) (parts : Parts) : Type 0 where
@@ -35,6 +37,8 @@ pub record TypeBlock (marks : List Mark) (parts : Parts) : Type 0 where
   pub others : List Mark
   pub here : drop (before is_braces marks) marks ≡ braces ∷ others
   pub block : parts.block ≡ Some (record { span = span_of braces; shape = shape.Members })
+  pub body : parts.body ≡ Some (before is_braces marks)
+  pub blocks : parts.blocks ≡ braces.start ∷ []
 
 -- by whether there are members
 abbrev pub BlockFits : Bool → ℕ → ℕ → List Mark → Parts → Type 0
@@ -44,7 +48,11 @@ BlockFits false from to marks parts = BlockBetween from to parts.block
 module _ (from to : ℕ) where
   block_here_lies : (may_list : Bool) (marks : List Mark) (insides : List Inside) → InOrder from marks to → BlockBetween from to (block_here may_list marks insides)
   block_here_lies may_list [] insides lies = tt
-  block_here_lies may_list (braces ∷ marks) insides lies = mark_between from to braces marks lies
+  block_here_lies may_list (braces ∷ marks) insides lies = (mark_lies from to braces marks lies, no_members (may_list && (first_inside insides).lists_accessors))
+    where
+      no_members : (b : Bool) → NotMembers (if b then shape.Accessors else shape.Body)
+      no_members true = tt
+      no_members false = tt
 
   abbrev TailFits : Tail → Type 0
   TailFits tail = BlockBetween from to tail.block
@@ -56,7 +64,7 @@ module _ (from to : ℕ) where
 
   blocked_fits : (type_span : Option Span) (marks : List Mark) (insides : List Inside) → InOrder from marks to → OkHolds TailFits (blocked type_span marks insides)
   blocked_fits type_span [] insides lies = tt
-  blocked_fits type_span (block ∷ marks) insides lies = ok_if TailFits (is_braces block && length marks == 0) _ _ (λ is. mark_between from to block marks lies) (λ is. tt)
+  blocked_fits type_span (block ∷ marks) insides lies = ok_if TailFits (is_braces block && length marks == 0) _ _ (λ is. block_here_lies true (block ∷ marks) insides lies) (λ is. tt)
 
   uninitialized : (marks : List Mark) (insides : List Inside) → InOrder from marks to → OkHolds TailFits (without_initializer marks insides)
   uninitialized [] insides lies = tt
@@ -109,7 +117,7 @@ module _ (from to : ℕ) where
 
   body_fits : (may_list : Bool) (name : Span) (place : ℕ) (marks : List Mark) (insides : List Inside) → InOrder from marks to → PlainFits (with_body may_list name place marks insides)
   body_fits may_list name place [] insides lies = tt
-  body_fits may_list name place (braces ∷ marks) insides lies = mark_between from to braces marks lies
+  body_fits may_list name place (braces ∷ marks) insides lies = block_here_lies may_list (braces ∷ marks) insides lies
 
   code_fits : (may_list : Bool) (name : Span) (marks : List Mark) (insides : List Inside) → InOrder from marks to → PlainFits (code may_list name marks insides)
   code_fits may_list name marks insides lies =
@@ -117,7 +125,7 @@ module _ (from to : ℕ) where
 
   members_fit : (starter : Mark) (names : List Span) (extended : Option Span) (clause : List Mark) (marks rest : List Mark) → drop (before is_braces marks) marks ≡ rest → OkHolds (TypeBlock marks) (with_members starter names extended clause (before is_braces marks) rest)
   members_fit starter names extended clause marks [] is = tt
-  members_fit starter names extended clause marks (braces ∷ others) is = record { braces = braces; others = others; here = is; block = refl }
+  members_fit starter names extended clause marks (braces ∷ others) is = record { braces = braces; others = others; here = is; block = refl; body = refl; blocks = refl }
 
   type_fits : (starter : Mark) (marks : List Mark) → OkHolds (TypeBlock marks) (of_type starter marks)
   type_fits starter marks =

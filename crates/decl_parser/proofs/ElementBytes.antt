@@ -12,16 +12,19 @@ use Rattle.swift_lexer.specs.Spellings.{IsToken, Spells}
 use Rattle.swift_lexer.specs.Tiles.{IsTile, bytes_of}
 use Rattle.element_marks.specs.declared.mark.Sort.{Sort}
 use Rattle.element_marks.specs.declared.mark.Sort.TheVariants as sort
-use Rattle.element_marks.specs.Sorts.{is_quoted, is_quoted_sort, is_use, is_use_sort}
+use Rattle.element_marks.specs.declared.mark.TheConstants.{LESS, GREATER}
+use Rattle.element_marks.specs.Sorts.{is_quoted, is_quoted_sort, is_use, is_use_sort, is_braces, is_braces_sort}
 use Rattle.element_marks.specs.Words.{is_builtin}
-use Rattle.element_marks.specs.Marks.{mark_sort, operator_sort, pound_sort, group_sort, leaf_sort, ends_angle, mark_between}
+use Rattle.element_marks.specs.Marks.{mark_sort, operator_sort, pound_sort, group_sort, leaf_sort, ends_angle, mark_between, angle_count, begins_angle}
 
--- an element holds a byte; a name in backquotes, a `#` word, and an operator that ends with a further `<` hold more
-pub record MarkFits (start end : ℕ) (quoted use_ angle : Bool) : Type 0 where
+-- an element holds a byte; a name in backquotes, a `#` word, and an operator that ends with a further `<` hold more.
+-- Braces have no `<` and no `>`
+pub record MarkFits (start end : ℕ) (quoted use_ angle braces begins : Bool) (opens closes : ℕ) : Type 0 where
   pub some : start < end
   pub name : quoted ≡ true → start + 2 < end
   pub word : use_ ≡ true → start + 1 < end
   pub operator : angle ≡ true → start + 1 < end
+  pub plain : braces ≡ true → (begins ≡ false) × (opens ≡ 0) × (closes ≡ 0)
 
 -- neither a name in backquotes nor a macro's `#` word
 record IsPlain (of_sort : Sort) : Type 0 where
@@ -105,7 +108,7 @@ pound_bytes : (of_class : Class) (bytes : List ℕ) → of_class ≡ class.Pound
 pound_bytes of_class bytes is token =
     omega (arith, pound_characters token.characters (subst (λ c. Spells c token.characters) is token.spelled), length-le-encodes token.characters, ap length token.encoded)
 
-both_left : (a b : Bool) → (a && b) ≡ true → a ≡ true
+pub both_left : (a b : Bool) → (a && b) ≡ true → a ≡ true
 both_left true b is = refl
 both_left false b is = cc
 
@@ -113,14 +116,19 @@ angle_bytes : (of_sort : Sort) (bytes : List ℕ) → ends_angle of_sort bytes �
 angle_bytes sort.Operator bytes is = ltb-true 1 (length bytes) (both_left (nat_lt 1 (length bytes)) _ is)
 angle_bytes _ bytes is = cc
 
+plain_braces : (of_sort : Sort) (bytes : List ℕ) → is_braces_sort of_sort ≡ true → (begins_angle of_sort bytes ≡ false) × (angle_count LESS of_sort bytes ≡ 0) × (angle_count GREATER of_sort bytes ≡ 0)
+plain_braces sort.Braces bytes is = (refl, refl, refl)
+plain_braces _ bytes is = cc
+
 bytes_length : (text : List ℕ) (token : Token) → IsTile text token → length (bytes_of text token) ≡ token.end - token.start
 bytes_length text token tile = omega (arith, length-take (token.end - token.start) (drop token.start text), length-drop token.start text, tile.within)
 
-pub element_fits : (text : List ℕ) (token : Token) (end : ℕ) → IsTile text token → token.end ≤ end → MarkFits (mark_between text token end).start (mark_between text token end).end (is_quoted (mark_between text token end)) (is_use (mark_between text token end)) (mark_between text token end).ends_angle
+pub element_fits : (text : List ℕ) (token : Token) (end : ℕ) → IsTile text token → token.end ≤ end → MarkFits (mark_between text token end).start (mark_between text token end).end (is_quoted (mark_between text token end)) (is_use (mark_between text token end)) (mark_between text token end).ends_angle (is_braces (mark_between text token end)) (mark_between text token end).begins_angle (mark_between text token end).opens (mark_between text token end).closes
 unfolding mark_between
 element_fits text token end tile less = record {
   some = omega (arith, tile.some);
   name = λ is. omega (arith, quoted_bytes token.class (bytes_of text token) (quoted_class token.class (bytes_of text token) is) tile.spelled, bytes_length text token tile);
   word = λ is. omega (arith, pound_bytes token.class (bytes_of text token) (use_class token.class (bytes_of text token) is) tile.spelled, bytes_length text token tile);
   operator = λ is. omega (arith, angle_bytes (leaf_sort token.class (bytes_of text token)) (bytes_of text token) is, bytes_length text token tile);
+  plain = λ is. plain_braces (leaf_sort token.class (bytes_of text token)) (bytes_of text token) is;
 }

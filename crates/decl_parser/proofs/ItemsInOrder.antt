@@ -1,29 +1,39 @@
 -- Declarations, one behind the other.
-use Rattle.std.proofs.Common.{◌≡◌, refl, sym, ap, subst, arith, ◌∙◌, ℕ, zero, suc, ◌+◌, ◌-◌, ◌<◌, ◌≤◌, ◌==◌, List, [], ◌∷◌, ◌++◌, length, take, drop, Option, Some, None, Ok, Bool, true, false, if◌then◌else◌}
+use Rattle.std.proofs.Common.{◌≡◌, refl, sym, ap, subst, arith, ◌∙◌, ℕ, zero, suc, ◌+◌, ◌-◌, ◌<◌, ◌≤◌, ◌==◌, List, [], ◌∷◌, ◌++◌, length, take, drop, Option, Some, None, Ok, Bool, true, false, if◌then◌else◌, ◌||◌}
 use Rattle.std.proofs.lemmas.List.{drop-drop, drop-take, length-drop}
 use Rattle.swift_base.specs.declared.place.Span.{Span}
+use Rattle.swift_tree.specs.declared.item.BlockShape.{BlockShape}
 use Rattle.swift_tree.specs.declared.item.BlockShape.TheVariants as shape
+use Rattle.swift_tree.specs.declared.item.MacroUse.{MacroUse}
+use Rattle.element_marks.specs.Answers.{and_then}
+use Rattle.std.specs.List.{list_any}
+use Rattle.std.proofs.Math.Seq.{drop-nil}
+use Rattle.std.proofs.lemmas.Bool.{eqb-false, true_from_ne_false}
 use Rattle.swift_tree.specs.declared.item.Kind.{Kind}
 use Rattle.swift_tree.specs.Outlines.{ItemSeen, items_from}
 use Rattle.element_marks.specs.declared.mark.Mark.{Mark}
 use Rattle.element_marks.specs.Sorts.{is_semicolon, is_braces}
-use Rattle.element_marks.specs.Spans.{end_of}
+use Rattle.element_marks.specs.Spans.{span_of, end_of}
 use Rattle.element_marks.specs.Heads.{first_is}
 use Rattle.element_marks.specs.Runs.{before}
 use Rattle.decl_parser.specs.declared.place.Place.{Place}
 use Rattle.decl_parser.specs.declared.inside.Inside.{Inside}
 use Rattle.decl_parser.specs.declared.inside.BlockAt.{BlockAt}
 use Rattle.decl_parser.specs.declared.parts.Parts.{Parts}
-use Rattle.decl_parser.specs.Insides.{nothing_inside}
+use Rattle.decl_parser.specs.Insides.{nothing_inside, first_inside}
 use Rattle.decl_parser.specs.Attributes.{span_from}
 use Rattle.decl_parser.specs.Found.{Found, found_from}
 use Rattle.decl_parser.specs.Parts.{parts, has_members}
-use Rattle.decl_parser.specs.Cut.{MembersRead, after, all_ends, assembled, beginning, block_of, count_of, cut_from, first_members, head_of, item_at, items_in, kind_of, members_at, members_place, one_item, whole_item, without}
-use Rattle.decl_parser.specs.Nesting.{UsesLie, ItemLies, BlockLies, ItemsLie, after_of}
+use Rattle.decl_parser.specs.Places.{has_place}
+use Rattle.decl_parser.specs.Cut.{MembersRead, after, all_ends, assembled, beginning, block_of, count_of, cut_from, first_members, head_of, item_at, items_in, kind_of, members_at, members_place, one_item, whole_item, without, placed, starter_of, start_of, use_fits, closed, ends, nothing_more, use_ends}
+use Rattle.decl_parser.specs.Nesting.{Between, UsesLie, StandsBehind, ItemLies, BlockLies, ItemsLie, after_of}
 use Rattle.decl_parser.proofs.Outcomes.{OkHolds, ok_then, ok_if, ok_at}
-use Rattle.decl_parser.proofs.Ordered.{InOrder, Beside, bounds, earlier, lies_take, lies_drop, lies_closely, lies_behind, lies_past, past_semicolon, has_at, beside_none, beside_take, beside_drop}
-use Rattle.decl_parser.proofs.UsesInOrder.{InsideLies, found_lies}
-use Rattle.decl_parser.proofs.BlocksInOrder.{BlockBetween, BlockFits, mark_between, parts_fit}
+use Rattle.decl_parser.proofs.Ordered.{InOrder, Beside, mark_lies, bounds, earlier, lies_take, lies_drop, lies_closely, lies_behind, lies_past, past_semicolon, has_at, beside_none, beside_take, beside_drop}
+use Rattle.decl_parser.proofs.FoundInOrder.{InsideLies, FoundLies, found_lies}
+use Rattle.decl_parser.proofs.PartsInOrder.{PartsFit, parts_lie}
+use Rattle.decl_parser.proofs.BlocksInOrder.{BlockBetween, BlockFits, NotMembers, TypeBlock, parts_fit}
+use Rattle.decl_parser.proofs.Accepting.{then_ok}
+use Rattle.decl_parser.proofs.UsesBefore.{AnglesEnd, AreLast, angles_take, uses_end}
 
 -- members lie between the braces of their group
 abbrev pub MembersLie : ℕ → MembersRead → ℕ → Type 0
@@ -33,27 +43,65 @@ first_members_lie : (braces : Mark) (others : List Mark) (members : List Members
 first_members_lie braces others [] inner holds is = let same : [] ≡ inner = cc in subst (λ l. ItemsLie (braces.start + 1) (items_from l) (braces.end - 1)) same tt
 first_members_lie braces others (members ∷ more) inner holds is = ok_at (λ items. ItemsLie (braces.start + 1) (items_from items) (braces.end - 1)) members inner is holds.0
 
-plain_block : (whole : Span) (at : Option BlockAt) (inner : List ItemSeen) → [] ≡ inner → BlockBetween whole.start whole.end at → BlockLies whole (block_of at inner)
-plain_block whole None inner same fits = tt
-plain_block whole (Some at) inner same fits = (fits, subst (λ l. ItemsLie (at.span.start + 1) (items_from l) (at.span.end - 1)) same tt)
+not_behind : (of_shape : BlockShape) (from to : ℕ) (uses : List MacroUse) → NotMembers of_shape → StandsBehind of_shape from uses to
+not_behind shape.Members from to uses not_ = absurd not_
+not_behind shape.Body from to uses not_ = tt
+not_behind shape.Accessors from to uses not_ = tt
 
-block_lies : (has : Bool) (whole : Span) (head : ℕ) (own : List Mark) (parts : Parts) (members : List MembersRead) (inner : List ItemSeen) → InOrder whole.start own whole.end → Beside MembersLie own members → BlockFits has whole.start whole.end (drop head own) parts
-    → members_at (if has then Some (head + before is_braces (drop head own)) else None) members ≡ Ok inner → BlockLies whole (block_of parts.block inner)
-block_lies false whole head own parts members inner lies holds fits found = let same : [] ≡ inner = cc in plain_block whole parts.block inner same fits
-block_lies true whole head own parts members inner lies holds fits found =
+plain_block : (whole : Span) (uses : List MacroUse) (at : Option BlockAt) (inner : List ItemSeen) → [] ≡ inner → BlockBetween whole.start whole.end at → BlockLies whole uses (block_of at inner)
+plain_block whole uses None inner same fits = tt
+plain_block whole uses (Some at) inner same fits =
+    (fits.0, not_behind at.shape whole.start at.span.start uses fits.1, subst (λ l. ItemsLie (at.span.start + 1) (items_from l) (at.span.end - 1)) same tt)
+
+-- the uses end before the braces of the members
+abbrev UsesEnd : Bool → ℕ → List MacroUse → List Mark → Parts → Type 0
+UsesEnd true from uses marks parts = (fits : TypeBlock marks parts) → UsesLie from uses fits.braces.start
+UsesEnd false from uses marks parts = Unit {0}
+
+block_lies : (has : Bool) (whole : Span) (uses : List MacroUse) (head : ℕ) (own : List Mark) (parts : Parts) (members : List MembersRead) (inner : List ItemSeen) → InOrder whole.start own whole.end → Beside MembersLie own members → BlockFits has whole.start whole.end (drop head own) parts
+    → UsesEnd has whole.start uses (drop head own) parts → members_at (if has then Some (head + before is_braces (drop head own)) else None) members ≡ Ok inner → BlockLies whole uses (block_of parts.block inner)
+block_lies false whole uses head own parts members inner lies holds fits ends found = let same : [] ≡ inner = cc in plain_block whole uses parts.block inner same fits
+block_lies true whole uses head own parts members inner lies holds fits ends found =
     let place = head + before is_braces (drop head own) in
     let here : drop place own ≡ fits.braces ∷ fits.others = sym (drop-drop (before is_braces (drop head own)) head own) ∙ fits.here in
     let first : InOrder whole.start (fits.braces ∷ fits.others) whole.end = subst (λ l. InOrder whole.start l whole.end) here (lies_drop place whole.start whole.end own lies) in
     let beside : Beside MembersLie (fits.braces ∷ fits.others) (drop place members) = subst (λ l. Beside MembersLie l (drop place members)) here (beside_drop MembersLie place own members holds) in
-    let braced : BlockLies whole (block_of (Some (record { span = record { start = fits.braces.start; end = fits.braces.end }; shape = shape.Members })) inner) = (mark_between whole.start whole.end fits.braces fits.others first, first_members_lie fits.braces fits.others (drop place members) inner beside found) in
-    subst (λ b. BlockLies whole (block_of b inner)) (sym fits.block) braced
+    let braced : BlockLies whole uses (block_of (Some (record { span = record { start = fits.braces.start; end = fits.braces.end }; shape = shape.Members })) inner) =
+    (mark_lies whole.start whole.end fits.braces fits.others first, ends fits, first_members_lie fits.braces fits.others (drop place members) inner beside found) in
+    subst (λ b. BlockLies whole uses (block_of b inner)) (sym fits.block) braced
+
+-- what is inside the members' braces is bare
+bare : (place : ℕ) (insides : List Inside) → (first_inside (drop place (take place insides ++ (nothing_inside ∷ drop 1 (drop place insides))))).uses ≡ []
+bare zero insides = refl
+bare (suc place) [] = ap (λ l. (first_inside l).uses) (drop-nil place)
+bare (suc place) (inside ∷ insides) = bare place insides
+
+-- the braces stand where the test passes
+braces_pass : (test : Mark → Bool) (marks others : List Mark) (mark : Mark) → drop (before test marks) marks ≡ mark ∷ others → test mark ≡ true
+braces_pass test [] others mark is = cc
+braces_pass test (first ∷ marks) others mark is =
+    elim (test first) as (λ b. test first ≡ b → drop (if b then 0 else suc (before test marks)) (first ∷ marks) ≡ mark ∷ others → test mark ≡ true) [
+      | true ↦ λ passes here. let same : first ≡ mark = cc in ap test (sym same) ∙ passes
+      | false ↦ λ fails later. braces_pass test marks others mark later
+    ] refl is
+
+nothing_left : (marks : List Mark) (done : Unit {0}) → nothing_more marks ≡ Ok done → marks ≡ []
+nothing_left [] done is = refl
+nothing_left (mark ∷ marks) done is = cc
+
+-- nothing stands behind the members
+closed_behind : (body : Option ℕ) (place : ℕ) (marks : List Mark) (done : Unit {0}) → body ≡ Some place → closed body marks ≡ Ok done → drop 1 (drop place marks) ≡ []
+closed_behind body place marks done is closes = nothing_left (drop 1 (drop place marks)) done (ap (λ b. closed b marks) (sym is) ∙ closes)
+
+known_block : (start : ℕ) → list_any (λ block. block == start) (start ∷ []) ≡ true
+known_block start = let same : (start == start) ≡ true = true_from_ne_false (start == start) (λ is. eqb-false start start is refl) in ap (λ b. b || false) same
 
 -- what stands inside the members' braces is left out
 replaced : (place : ℕ) (marks : List Mark) (insides : List Inside) → Beside InsideLies marks insides → Beside InsideLies marks (take place insides ++ (nothing_inside ∷ drop 1 (drop place insides)))
 replaced place [] insides holds = tt
-replaced zero (mark ∷ marks) [] holds = (tt, beside_none InsideLies marks)
-replaced zero (mark ∷ marks) (inside ∷ insides) holds = (tt, holds.1)
-replaced (suc place) (mark ∷ marks) [] holds = (tt, beside_none InsideLies marks)
+replaced zero (mark ∷ marks) [] holds = (record { names = tt; uses = tt; locals = tt }, beside_none InsideLies marks)
+replaced zero (mark ∷ marks) (inside ∷ insides) holds = (record { names = tt; uses = tt; locals = tt }, holds.1)
+replaced (suc place) (mark ∷ marks) [] holds = (record { names = tt; uses = tt; locals = tt }, beside_none InsideLies marks)
 replaced (suc place) (mark ∷ marks) (inside ∷ insides) holds = (holds.0, replaced place marks insides holds.1)
 
 beside_without : (place : Option ℕ) (marks : List Mark) (insides : List Inside) → Beside InsideLies marks insides → Beside InsideLies marks (without place insides)
@@ -69,23 +117,82 @@ has_beginning : (place : Place) (own : List Mark) (starter : Mark) → beginning
 has_beginning place [] starter is = cc
 has_beginning place (mark ∷ marks) starter is = omega arith
 
+-- the starter is one of its elements
+placed_lies : (place : Place) (start from to : ℕ) (marks : List Mark) → InOrder from marks to → OkHolds (λ starter. Between from to (span_of starter)) (placed place start marks)
+placed_lies place start from to [] lies = tt
+placed_lies place start from to (starter ∷ marks) lies = ok_if (λ starter. Between from to (span_of starter)) (has_place place (kind_of starter)) _ _ (λ is. mark_lies from to starter marks lies) (λ is. tt)
+
+starter_lies : (place : Place) (from to : ℕ) (own : List Mark) → InOrder from own to → OkHolds (λ starter. Between from to (span_of starter)) (beginning place own)
+starter_lies place from to own lies =
+    let P : Mark → Type 0 = λ starter. Between from to (span_of starter) in
+    let n = head_of own - 1 in
+    ok_then P (starter_of place own) _ (λ starter is. ok_then P (use_fits (head_of own) starter) _ (λ fits_ fit. ok_at P (starter_of place own) starter is (placed_lies place (start_of own) from to (drop n own) (lies_drop n from to own lies))))
+
 -- a declaration lies between the two places, and ends where it should
 abbrev pub ItemFits : ℕ → ℕ → List Mark → List Mark → ItemSeen → Type 0
 ItemFits from to own next seen = ItemLies from seen to × (after_of seen ≡ after (end_of from own) next)
 
 assembled_fits : (from to : ℕ) (own next : List Mark) (kind : Kind) (parts : Parts) (found : Found) (inner : List ItemSeen) → 0 < length own → InOrder from own (end_of from own) → InOrder (end_of from own) next to
-    → UsesLie (span_from own).start found.uses (span_from own).end → BlockLies (span_from own) (block_of parts.block inner) → ItemFits from to own next (assembled (span_from own) next kind parts found inner)
-assembled_fits from to [] next kind parts found inner some lies behind uses block = absurd (omega (arith, some))
-assembled_fits from to (mark ∷ marks) next kind parts found inner some lies behind uses block =
+    → PartsFit (span_from own).start (span_from own).end parts → FoundLies (span_from own).start (span_from own).end found → BlockLies (span_from own) found.uses (block_of parts.block inner) → ItemFits from to own next (assembled (span_from own) next kind parts found inner)
+assembled_fits from to [] next kind parts found inner some lies behind named found_ block = absurd (omega (arith, some))
+assembled_fits from to (mark ∷ marks) next kind parts found inner some lies behind named found_ block =
     let end = end_of mark.end marks in
-    let passed = lies_past end to next behind in
-    ((record { begins = lies.0; some = omega (arith, lies.1.some, bounds mark.end end marks lies.2); behind = passed.0; ends = passed.1; uses = uses }, block), refl)
+    let passed = lies_past end to next behind in (
+      (
+        record {
+          begins = lies.0;
+          some = omega (arith, lies.1.some, bounds mark.end end marks lies.2);
+          behind = passed.0;
+          ends = passed.1;
+          attrs = found_.attrs;
+          names = named.names;
+          bindings = named.bindings;
+          inherits = named.inherits;
+          extended = named.extended;
+          uses = found_.uses;
+          locals = found_.locals;
+          apart = found_.apart;
+        },
+        block,
+      ),
+      refl,
+    )
+
+-- the uses of a declaration with members end before these
+uses_end_before : (list : List Mark) (at head place : ℕ) (parts : Parts) (insides : List Inside) (whole : Span) (body_done : Unit {0}) (fits : TypeBlock (drop head (drop at list)) parts) → place ≡ head + before is_braces (drop head (drop at list)) → 0 < length (drop at list) → AnglesEnd list
+    → InOrder whole.start (drop at list) whole.end → Beside InsideLies (drop at list) insides → (first_inside (drop place insides)).uses ≡ [] → closed parts.body (drop head (drop at list)) ≡ Ok body_done
+    → UsesLie whole.start (found_from parts.blocks (at + head) list at 0 (length list - at) insides).uses fits.braces.start
+uses_end_before list at head place parts insides whole body_done fits placed_ some angled lies holds nothing closes =
+    let own = drop at list in
+    let inner = before is_braces (drop head own) in
+    let braces = fits.braces in
+    let no_others : fits.others ≡ [] = ap (drop 1) (sym fits.here) ∙ closed_behind parts.body inner (drop head own) body_done fits.body closes in
+    let here : drop inner (drop head own) ≡ braces ∷ [] = fits.here ∙ ap (λ l. braces ∷ l) no_others in
+    let own_end : drop place own ≡ braces ∷ [] = ap (λ n. drop n own) placed_ ∙ sym (drop-drop inner head own) ∙ here in
+    let list_end : drop (at + place) list ≡ braces ∷ [] = sym (drop-drop place at list) ∙ own_end in
+    let long : suc (at + place) ≡ length list = omega (arith, ap length list_end, length-drop (at + place) list) in
+    let braced : is_braces braces ≡ true = braces_pass is_braces (drop head own) fits.others braces fits.here in
+    let last_lies : InOrder whole.start (braces ∷ []) whole.end = subst (λ l. InOrder whole.start l whole.end) own_end (lies_drop place whole.start whole.end own lies) in
+    let known : list_any (λ block. block == braces.start) parts.blocks ≡ true = ap (list_any (λ block. block == braces.start)) fits.blocks ∙ known_block braces.start in
+    let last : AreLast parts.blocks braces = record { braced = braced; plain = last_lies.1.plain braced; known = known } in
+    let at_once : at ≡ at + 0 = omega arith in
+    let all : at + (length list - at) ≡ length list = omega (arith, some, length-drop at list) in
+    let room : (at + place) - at ≡ place = omega arith in
+    uses_end parts.blocks (at + head) list whole.end braces last (at + place) long list_end angled at 0 (length list - at) insides whole.start all (subst (λ n. InOrder whole.start (drop n list) whole.end) at_once lies) holds (λ within. ap (λ n. (first_inside (drop n insides)).uses) room ∙ nothing)
+
+-- by whether there are members
+ends_by : (has : Bool) (list : List Mark) (at head : ℕ) (whole : Span) (parts : Parts) (insides : List Inside) → (done : Unit {0}) → closed parts.body (drop head (drop at list)) ≡ Ok done → 0 < length (drop at list) → AnglesEnd list → InOrder whole.start (drop at list) whole.end → Beside InsideLies (drop at list) insides
+    → UsesEnd has whole.start (found_from parts.blocks (at + head) list at 0 (length list - at) (without (if has then Some (head + before is_braces (drop head (drop at list))) else None) insides)).uses (drop head (drop at list)) parts
+ends_by false list at head whole parts insides done closes some angled lies holds = tt
+ends_by true list at head whole parts insides done closes some angled lies holds =
+    let place = head + before is_braces (drop head (drop at list)) in
+    λ fits. uses_end_before list at head place parts (without (Some place) insides) whole done fits refl some angled lies (beside_without (Some place) (drop at list) insides holds) (bare place insides) closes
 
 module _ (place : Place) (list : List Mark) (at : ℕ) (next : List Mark) (insides : List Inside) (members : List MembersRead) (from to : ℕ) where
-  pub item_fits : InOrder from (drop at list) (end_of from (drop at list)) → InOrder (end_of from (drop at list)) next to → Beside InsideLies (drop at list) insides → Beside MembersLie (drop at list) members
+  pub item_fits : AnglesEnd list → InOrder from (drop at list) (end_of from (drop at list)) → InOrder (end_of from (drop at list)) next to → Beside InsideLies (drop at list) insides → Beside MembersLie (drop at list) members
       → OkHolds (ItemFits from to (drop at list) next) (item_at place list at next insides members)
   unfolding item_at whole_item
-  item_fits lies behind inside_holds members_hold =
+  item_fits angled lies behind inside_holds members_hold =
       let own = drop at list in
       let head = head_of own in
       let P : ItemSeen → Type 0 = ItemFits from to (drop at list) next in
@@ -97,18 +204,21 @@ module _ (place : Place) (list : List Mark) (at : ℕ) (next : List Mark) (insid
       let closely = own_lies from (end_of from own) own some lies in
       ok_then P (parts (kind_of starter) starter (drop head own) (drop head outside)) _ (λ read is.
       ok_then P (members_at braces members) _ (λ inner found.
-      ok_then P (all_ends read.body starter list at) _ (λ ended ends.
+      ok_then P (all_ends read.body starter list at) _ (λ ended ends_.
+      let shut = then_ok (closed read.body (drop head own)) (λ closes. and_then (use_ends starter list at) (λ alone. ends own)) ended ends_ in
       assembled_fits from to own next (kind_of starter) read (found_from read.blocks (at + head) list at 0 (length list - at) outside) inner some lies behind
+      (ok_at (PartsFit whole.start whole.end) (parts (kind_of starter) starter (drop head own) (drop head outside)) read is (parts_lie whole.start whole.end (kind_of starter) starter (drop head own) (drop head outside) (ok_at (λ one. Between whole.start whole.end (span_of one)) (beginning place own) starter begun (starter_lies place whole.start whole.end own closely)) (lies_drop head whole.start whole.end own closely) (beside_drop InsideLies head own outside (beside_without braces own insides inside_holds))))
       (found_lies read.blocks (at + head) list whole.end at 0 (length list - at) outside whole.start (omega (arith, some, length-drop at list)) (let here : at ≡ at + 0 = omega arith in subst (λ n. InOrder whole.start (drop n list) whole.end) here closely) (beside_without braces own insides inside_holds))
-      (block_lies (has_members (kind_of starter)) whole head own read members inner closely members_hold
+      (block_lies (has_members (kind_of starter)) whole (found_from read.blocks (at + head) list at 0 (length list - at) outside).uses head own read members inner closely members_hold
       (ok_at (BlockFits (has_members (kind_of starter)) whole.start whole.end (drop head own)) (parts (kind_of starter) starter (drop head own) (drop head outside)) read is (parts_fit whole.start whole.end (kind_of starter) starter (drop head own) (drop head outside) (lies_drop head whole.start whole.end own closely)))
+      (ends_by (has_members (kind_of starter)) list at head whole read insides shut.0 shut.1 some angled closely inside_holds)
       found)))))
 
 not_zero : (n : ℕ) → (n == 0) ≡ false → 0 < n
 not_zero zero is = cc
 not_zero (suc n) is = omega arith
 
-module _ (place : Place) (marks : List Mark) (insides : List Inside) (members : List MembersRead) (inside_holds : Beside InsideLies marks insides) (members_hold : Beside MembersLie marks members) (to : ℕ) where
+module _ (place : Place) (marks : List Mark) (insides : List Inside) (members : List MembersRead) (inside_holds : Beside InsideLies marks insides) (members_hold : Beside MembersLie marks members) (angled : AnglesEnd marks) (to : ℕ) where
   abbrev OneFits : ℕ → List Mark → ItemSeen → Type 0
   OneFits from rest seen = ItemFits from to (take (count_of rest) rest) (drop (count_of rest) rest) seen
 
@@ -123,7 +233,7 @@ module _ (place : Place) (marks : List Mark) (insides : List Inside) (members : 
       let own_members : Beside MembersLie (drop at list) (take count (drop at members)) = subst (λ l. Beside MembersLie l (take count (drop at members))) (sym own) (beside_take MembersLie count rest (drop at members) (beside_drop MembersLie at marks members members_hold)) in
       let closely : InOrder from (drop at list) (end_of from (drop at list)) = subst (λ l. InOrder from l (end_of from l)) (sym own) (lies_closely from to (take count rest) (lies_take count from to rest lies)) in
       let behind : InOrder (end_of from (drop at list)) (drop (at + count) marks) to = subst (λ l. InOrder (end_of from (drop at list)) l to) (sym next) (subst (λ l. InOrder (end_of from l) (drop count rest) to) (sym own) (lies_behind count from to rest lies)) in
-      let fits = item_fits place list at (drop (at + count) marks) (take count (drop at insides)) (take count (drop at members)) from to closely behind own_insides own_members in
+      let fits = item_fits place list at (drop (at + count) marks) (take count (drop at insides)) (take count (drop at members)) from to (angles_take (at + count) marks angled) closely behind own_insides own_members in
       subst (λ l. OkHolds (ItemFits from to l (drop count rest)) (one_item place marks insides members at)) own (subst (λ l. OkHolds (ItemFits from to (drop at list) l) (one_item place marks insides members at)) next fits)
 
   abbrev AllLie : ℕ → List ItemSeen → Type 0

@@ -1,5 +1,11 @@
 -- Declarations and macro uses at every depth, and in the whole text.
-use Rattle.std.proofs.Common.{subst, arith, ℕ, ◌+◌, ◌-◌, List, length, true}
+use Rattle.std.proofs.Common.{subst, arith, ℕ, ◌+◌, ◌-◌, List, length, true, false, ◌∷◌, ◌≤◌, Result, Ok, Err, if◌then◌else◌, [], ◌≡◌}
+use Rattle.swift_base.specs.declared.place.Span.{Span}
+use Rattle.element_marks.specs.declared.mark.Mark.{Mark}
+use Rattle.element_marks.specs.Sorts.{is_braces}
+use Rattle.element_marks.specs.Spans.{between}
+use Rattle.element_marks.specs.Heads.{first_is, in_list}
+use Rattle.element_marks.specs.Marks.{mark_between}
 use Rattle.swift_lexer.specs.declared.token.Token.{Token}
 use Rattle.swift_lexer.specs.Trees.{Tree, leaf, nest, Forest, none, cons}
 use Rattle.swift_lexer.specs.Groups.{IsGrouped}
@@ -7,20 +13,23 @@ use Rattle.swift_lexer.proofs.Reaching.{groups_hold_the_tokens}
 use Rattle.swift_lexer.proofs.SomeGrouping.{some_group_outcome}
 use Rattle.swift_tree.specs.declared.outline.Shape.{Shape}
 use Rattle.swift_tree.specs.declared.outline.Shape.TheVariants as shape
-use Rattle.swift_tree.specs.Outlines.{OutlineSeen, items_from}
+use Rattle.swift_tree.specs.Outlines.{ItemSeen, OutlineSeen, items_from}
 use Rattle.element_marks.specs.Levels.{own_marks, level}
 use Rattle.element_marks.specs.Accessors.{accessors_from}
 use Rattle.decl_parser.specs.declared.place.Place.{Place}
 use Rattle.decl_parser.specs.declared.place.Place.TheVariants as place
 use Rattle.decl_parser.specs.Found.{found_in}
 use Rattle.decl_parser.specs.Levels.{read_inside, inside_of, insides, members_of, members, items_of_list}
-use Rattle.decl_parser.specs.Fragments.{by_shape, attributes_from, accessor_marks, not_an_accessor, one_group, expression}
-use Rattle.decl_parser.specs.Nesting.{UsesLie, ItemsLie}
+use Rattle.decl_parser.specs.Fragments.{all_of, by_shape, attributes_from, accessor_marks, accessors_inside, first_between, not_an_accessor, one_group, expression}
+use Rattle.decl_parser.specs.Nesting.{PartsLie, AttrsLie, ItemsLie, OutlineLies}
 use Rattle.decl_parser.specs.Laws.{SpansInOrder}
 use Rattle.decl_parser.proofs.Outcomes.{OkHolds, ok_then, ok_at}
 use Rattle.decl_parser.proofs.Accepting.{parsed, tokens_read_tile}
-use Rattle.decl_parser.proofs.Ordered.{InOrder, Beside, beside_level, beside_marks, earlier, later, ForestInOrder, TreeInOrder, tree_start, tree_end, level_in_order, tiled_in_order}
-use Rattle.decl_parser.proofs.UsesInOrder.{InsideLies, found_in_lies}
+use Rattle.decl_parser.proofs.Ordered.{InOrder, Beside, beside_level, beside_marks, earlier, later, ForestInOrder, TreeInOrder, tree_start, tree_end, level_in_order, tiled_in_order, forest_bounds}
+use Rattle.decl_parser.proofs.FoundInOrder.{InsideLies, FoundLies, found_in_lies}
+use Rattle.decl_parser.proofs.PartsInOrder.{names_inside_lie}
+use Rattle.decl_parser.proofs.FragmentsInOrder.{Spans, spans_from, all_spans, attributes_lie, accessors_lie}
+use Rattle.decl_parser.proofs.UsesBefore.{level_angles}
 use Rattle.decl_parser.proofs.ItemsInOrder.{MembersLie, items_lie}
 
 -- the elements of a group lie between its brackets
@@ -32,9 +41,13 @@ mutual
   unfolding inside_of insides read_inside
 
   inside_lies : (text : List ℕ) (from : ℕ) (tree : Tree) → TreeInOrder text from tree → InsideLies (tree_start tree) (inside_of text tree) (tree_end tree)
-  inside_lies text from (leaf token) lies = tt
+  inside_lies text from (leaf token) lies = record { names = tt; uses = tt; locals = tt }
   inside_lies text from (nest left inner right) lies =
-      found_in_lies (left.start + 1) (right.end - 1) (level text inner) (insides text inner) (inner_in_order text left right inner from lies) (beside_level InsideLies text inner (insides text inner) (insides_lie text left.end right.start inner lies.2))
+      let marks = level text inner in
+      let order = inner_in_order text left right inner from lies in
+      let holds = beside_level InsideLies text inner (insides text inner) (insides_lie text left.end right.start inner lies.2) in
+      let found = found_in_lies (left.start + 1) (right.end - 1) marks (insides text inner) order holds in
+      record { names = names_inside_lie (right.end - 1) marks (insides text inner) (left.start + 1) order holds; uses = found.uses; locals = found.locals }
 
   insides_lie : (text : List ℕ) (from to : ℕ) (forest : Forest) → ForestInOrder text from forest to → Beside InsideLies (own_marks text forest) (insides text forest)
   insides_lie text from to none lies = tt
@@ -50,7 +63,7 @@ mutual
   members_lie : (text : List ℕ) (from : ℕ) (tree : Tree) → TreeInOrder text from tree → MembersLie (tree_start tree) (members_of text tree) (tree_end tree)
   members_lie text from (leaf token) lies = tt
   members_lie text from (nest left inner right) lies =
-      items_lie place.Members (level text inner) (insides text inner) (members text inner) (level_insides text left.end right.start inner lies.2) (beside_level MembersLie text inner (members text inner) (all_members_lie text left.end right.start inner lies.2))
+      items_lie place.Members (level text inner) (insides text inner) (members text inner) (level_insides text left.end right.start inner lies.2) (beside_level MembersLie text inner (members text inner) (all_members_lie text left.end right.start inner lies.2)) (level_angles text inner)
       (right.end - 1) (left.start + 1) (inner_in_order text left right inner from lies)
 
   all_members_lie : (text : List ℕ) (from to : ℕ) (forest : Forest) → ForestInOrder text from forest to → Beside MembersLie (own_marks text forest) (members text forest)
@@ -61,23 +74,87 @@ mutual
 list_lies : (of_place : Place) (text : List ℕ) (from to : ℕ) (forest : Forest) → ForestInOrder text from forest to → OkHolds (λ items. ItemsLie from (items_from items) to) (items_of_list of_place text forest)
 unfolding items_of_list
 list_lies of_place text from to forest lies =
-    items_lie of_place (level text forest) (insides text forest) (members text forest) (level_insides text from to forest lies) (beside_level MembersLie text forest (members text forest) (all_members_lie text from to forest lies)) to from (level_in_order text from to forest lies)
+    items_lie of_place (level text forest) (insides text forest) (members text forest) (level_insides text from to forest lies) (beside_level MembersLie text forest (members text forest) (all_members_lie text from to forest lies)) (level_angles text forest) to from (level_in_order text from to forest lies)
 
-uses_lie : (text : List ℕ) (from to : ℕ) (forest : Forest) → ForestInOrder text from forest to → UsesLie from (found_in (level text forest) (insides text forest)).uses to
-uses_lie text from to forest lies = found_in_lies from to (level text forest) (insides text forest) (level_in_order text from to forest lies) (level_insides text from to forest lies)
+found_in_list : (text : List ℕ) (from to : ℕ) (forest : Forest) → ForestInOrder text from forest to → FoundLies from to (found_in (level text forest) (insides text forest))
+found_in_list text from to forest lies = found_in_lies from to (level text forest) (insides text forest) (level_in_order text from to forest lies) (level_insides text from to forest lies)
 
-abbrev OutlineLies : List ℕ → OutlineSeen → Type 0
-OutlineLies text seen = ItemsLie 0 seen.items (length text) × UsesLie 0 seen.uses (length text)
+-- the accessors stand in the list, or inside the one group that it is
+accessor_marks_lie : (text : List ℕ) (to : ℕ) (forest : Forest) → ForestInOrder text 0 forest to → InOrder 0 (accessor_marks text (level text forest) (one_group forest)) to
+accessor_marks_lie text to none lies = level_in_order text 0 to none lies
+accessor_marks_lie text to (cons (leaf token) none) lies = level_in_order text 0 to (cons (leaf token) none) lies
+accessor_marks_lie text to (cons (nest left inner right) none) lies =
+    let marks = level text (cons (nest left inner right) none) in
+    elim (first_is is_braces marks) as (λ b. InOrder 0 (if b then level text inner else marks) to) [
+      | true ↦ earlier 0 (left.start + 1) to (level text inner) (omega arith) (later (left.start + 1) (right.end - 1) to (level text inner) (omega (arith, lies.1)) (inner_in_order text left right inner 0 lies.0))
+      | false ↦ level_in_order text 0 to (cons (nest left inner right) none) lies
+    ]
+accessor_marks_lie text to (cons tree (cons next others)) lies = level_in_order text 0 to (cons tree (cons next others)) lies
 
-shape_lies : (text : List ℕ) (of_shape : Shape) (forest : Forest) → ForestInOrder text 0 forest (length text) → OkHolds (OutlineLies text) (by_shape text of_shape forest)
-shape_lies text shape.File forest lies = ok_then (OutlineLies text) (items_of_list place.File text forest) _ (λ items are. (ok_at (λ items. ItemsLie 0 (items_from items) (length text)) (items_of_list place.File text forest) items are (list_lies place.File text 0 (length text) forest lies), tt))
-shape_lies text shape.Items forest lies = ok_then (OutlineLies text) (items_of_list place.Anywhere text forest) _ (λ items are. (ok_at (λ items. ItemsLie 0 (items_from items) (length text)) (items_of_list place.Anywhere text forest) items are (list_lies place.Anywhere text 0 (length text) forest lies), tt))
-shape_lies text shape.Attributes forest lies = ok_then (OutlineLies text) (attributes_from 0 (level text forest) (insides text forest)) _ (λ attrs are. (tt, tt))
-shape_lies text shape.Accessors forest lies = ok_then (OutlineLies text) (not_an_accessor (accessors_from true 0 (accessor_marks text (level text forest) (one_group forest)))) _ (λ words are. (tt, uses_lie text 0 (length text) forest lies))
-shape_lies text shape.Expression forest lies = ok_then (OutlineLies text) (expression (level text forest)) _ (λ fine is. (tt, uses_lie text 0 (length text) forest lies))
+-- between the braces around them
+abbrev HasRoom : ℕ → List Mark → Type 0
+HasRoom to [] = Unit {0}
+HasRoom to (mark ∷ marks) = (mark.start + 2 ≤ mark.end) × (mark.end ≤ to)
+
+between_lies : (text : List ℕ) (marks : List Mark) → HasRoom (length text) marks → Spans (length text) (first_between text marks)
+between_lies text [] room = all_spans text
+between_lies text (mark ∷ marks) room =
+    elim (is_braces mark) as (λ b. Spans (length text) (if b then between mark else all_of text)) [
+      | true ↦ (omega (arith, room.0), omega (arith, room.1))
+      | false ↦ all_spans text
+    ]
+
+group_room : (text : List ℕ) (to : ℕ) (left : Token) (inner : Forest) (right : Token) → TreeInOrder text 0 (nest left inner right) → right.end ≤ to → HasRoom to (level text (cons (nest left inner right) none))
+unfolding level in_list mark_between
+group_room text to left inner right lies last = (omega (arith, lies.1.some, forest_bounds text left.end right.start inner lies.2, lies.3.some), last)
+
+accessors_between : (text : List ℕ) (forest : Forest) → ForestInOrder text 0 forest (length text) → Spans (length text) (accessors_inside text (level text forest) (one_group forest))
+accessors_between text none lies = all_spans text
+accessors_between text (cons (leaf token) none) lies = all_spans text
+accessors_between text (cons (nest left inner right) none) lies = between_lies text (level text (cons (nest left inner right) none)) (group_room text (length text) left inner right lies.0 lies.1)
+accessors_between text (cons tree (cons next others)) lies = all_spans text
+
+fault_kept : (P : List Span → Type 0) (outcome : Result (List Span) ℕ) → OkHolds P outcome → OkHolds P (not_an_accessor outcome)
+fault_kept P (Ok words) holds = holds
+fault_kept P (Err at) holds = tt
+
+module _ (text : List ℕ) (forest : Forest) (lies : ForestInOrder text 0 forest (length text)) where
+  abbrev Fits : OutlineSeen → Type 0
+  Fits = OutlineLies (length text)
+
+  declared_lie : (of_place : Place) (items : List ItemSeen) → items_of_list of_place text forest ≡ Ok items → ItemsLie 0 (items_from items) (length text)
+  declared_lie of_place items are = ok_at (λ items. ItemsLie 0 (items_from items) (length text)) (items_of_list of_place text forest) items are (list_lies of_place text 0 (length text) forest lies)
+
+  shape_lies : (of_shape : Shape) → OkHolds Fits (by_shape text of_shape forest)
+  shape_lies shape.File = ok_then Fits (items_of_list place.File text forest) _ (λ items are. record { items = declared_lie place.File items are; attrs = tt; accessors = tt; uses = tt; locals = tt; inside = all_spans text })
+  shape_lies shape.Items = ok_then Fits (items_of_list place.Anywhere text forest) _ (λ items are. record { items = declared_lie place.Anywhere items are; attrs = tt; accessors = tt; uses = tt; locals = tt; inside = all_spans text })
+  shape_lies shape.Attributes =
+      let order = level_in_order text 0 (length text) forest lies in
+      ok_then Fits (attributes_from 0 (level text forest) (insides text forest)) _ (λ attrs are. record {
+        items = tt;
+        attrs = ok_at (λ attrs. AttrsLie 0 attrs (length text)) (attributes_from 0 (level text forest) (insides text forest)) attrs are (attributes_lie (length text) 0 (level text forest) (insides text forest) 0 order (level_insides text 0 (length text) forest lies));
+        accessors = tt;
+        uses = tt;
+        locals = tt;
+        inside = spans_from 0 (length text) (level text forest) order;
+      })
+  shape_lies shape.Accessors =
+      let marks = accessor_marks text (level text forest) (one_group forest) in
+      let found = found_in_list text 0 (length text) forest lies in
+      ok_then Fits (not_an_accessor (accessors_from true 0 marks)) _ (λ words are. record {
+        items = tt;
+        attrs = tt;
+        accessors = ok_at (λ words. PartsLie 0 words (length text)) (not_an_accessor (accessors_from true 0 marks)) words are (fault_kept (λ words. PartsLie 0 words (length text)) (accessors_from true 0 marks) (accessors_lie (length text) true 0 marks 0 (accessor_marks_lie text (length text) forest lies)));
+        uses = found.uses;
+        locals = found.locals;
+        inside = accessors_between text forest lies;
+      })
+  shape_lies shape.Expression =
+      let found = found_in_list text 0 (length text) forest lies in
+      ok_then Fits (expression (level text forest)) _ (λ fine is. record { items = tt; attrs = tt; accessors = tt; uses = found.uses; locals = found.locals; inside = spans_from 0 (length text) (level text forest) (level_in_order text 0 (length text) forest lies) })
 
 pub spans_in_order : SpansInOrder
 spans_in_order text of_shape seen is =
     let read = parsed text of_shape seen is in
     let held = groups_hold_the_tokens text read.tokens read.forest (subst (IsGrouped text read.tokens) read.grouped (some_group_outcome text read.tokens)) in
-    ok_at (OutlineLies text) (by_shape text of_shape read.forest) seen read.shaped (shape_lies text of_shape read.forest (tiled_in_order text read.tokens read.forest (tokens_read_tile text read.tokens read.read) held.0))
+    ok_at (OutlineLies (length text)) (by_shape text of_shape read.forest) seen read.shaped (shape_lies text read.forest (tiled_in_order text read.tokens read.forest (tokens_read_tile text read.tokens read.read) held.0) of_shape)

@@ -1,23 +1,27 @@
 -- The elements of a list, one behind the other.
-use Rattle.std.proofs.Common.{◌≡◌, refl, sym, subst, arith, ℕ, zero, suc, ◌<◌, ◌≤◌, List, [], ◌∷◌, ◌++◌, length, take, drop, Option, Some, None, true, false, if◌then◌else◌}
+use Rattle.std.proofs.Common.{◌≡◌, refl, sym, subst, arith, ℕ, zero, suc, ◌<◌, ◌≤◌, List, [], ◌∷◌, ◌++◌, length, take, drop, Option, Some, None, true, false, if◌then◌else◌, ap}
 use Rattle.std.specs.List.{All}
 use Rattle.std.proofs.lemmas.List.Elements.{All-head, All-tail}
 use Rattle.swift_lexer.specs.declared.token.Token.{Token}
 use Rattle.swift_lexer.specs.Tiles.{IsTile, Chained, last_end, TokensTile}
 use Rattle.swift_lexer.specs.Trees.{Tree, leaf, nest, Forest, none, cons, tree_tokens, forest_tokens}
 use Rattle.element_marks.specs.declared.mark.Mark.{Mark}
-use Rattle.element_marks.specs.Sorts.{is_semicolon, is_quoted, is_use}
+use Rattle.element_marks.specs.Sorts.{is_semicolon, is_quoted, is_use, is_braces}
 use Rattle.element_marks.specs.Marks.{mark_of, mark_between}
-use Rattle.element_marks.specs.Spans.{end_of}
+use Rattle.element_marks.specs.Spans.{span_of, between, name_of, end_of, whole}
 use Rattle.element_marks.specs.Heads.{with_joins, with_angles, with_modifiers, with_heads, in_list}
 use Rattle.element_marks.specs.Levels.{own_marks, level}
 use Rattle.decl_parser.specs.Cut.{after}
+use Rattle.decl_parser.specs.Nesting.{Between, MayLie}
 use Rattle.decl_parser.proofs.ElementBytes.{MarkFits, element_fits}
+
+abbrev pub IsFit : Mark → Type 0
+IsFit mark = MarkFits mark.start mark.end (is_quoted mark) (is_use mark) mark.ends_angle (is_braces mark) mark.begins_angle mark.opens mark.closes
 
 -- the elements lie between the two places, each behind the one before
 abbrev pub InOrder : ℕ → List Mark → ℕ → Type 0
 InOrder from [] to = from ≤ to
-InOrder from (mark ∷ marks) to = (from ≤ mark.start) × MarkFits mark.start mark.end (is_quoted mark) (is_use mark) mark.ends_angle × InOrder mark.end marks to
+InOrder from (mark ∷ marks) to = (from ≤ mark.start) × IsFit mark × InOrder mark.end marks to
 
 pub bounds : (from to : ℕ) (marks : List Mark) → InOrder from marks to → from ≤ to
 bounds from to [] lies = lies
@@ -203,7 +207,7 @@ tiled_in_order text tokens forest tiles same =
     forest_in_order text 0 (length text) forest (subst (λ l. TokensInOrder text 0 l (length text)) (sym same) (tokens_in_order text 0 tokens (omega arith) tiles.each tiles.chained))
 
 mutual
-  forest_bounds : (text : List ℕ) (from to : ℕ) (forest : Forest) → ForestInOrder text from forest to → from ≤ to
+  pub forest_bounds : (text : List ℕ) (from to : ℕ) (forest : Forest) → ForestInOrder text from forest to → from ≤ to
   forest_bounds text from to none lies = lies
   forest_bounds text from to (cons tree forest) lies = let first = tree_bounds text from tree lies.0 in omega (arith, first.0, first.1, forest_bounds text (tree_end tree) to forest lies.1)
 
@@ -221,7 +225,7 @@ unfolding mark_between
 mark_end text (leaf token) = refl
 mark_end text (nest left inner right) = refl
 
-mark_fits : (text : List ℕ) (from : ℕ) (tree : Tree) → TreeInOrder text from tree → MarkFits (mark_of text tree).start (mark_of text tree).end (is_quoted (mark_of text tree)) (is_use (mark_of text tree)) (mark_of text tree).ends_angle
+mark_fits : (text : List ℕ) (from : ℕ) (tree : Tree) → TreeInOrder text from tree → IsFit (mark_of text tree)
 mark_fits text from (leaf token) lies = element_fits text token token.end lies.1 (omega arith)
 mark_fits text from (nest left inner right) lies = element_fits text left right.end lies.1 (omega (arith, forest_bounds text left.end right.start inner lies.2, lies.3.some))
 
@@ -252,3 +256,39 @@ has_at (mark ∷ marks) zero within = record { mark = mark; marks = marks; here 
 has_at (mark ∷ marks) (suc at) within =
     let rest = has_at marks at (omega (arith, within)) in
     record { mark = rest.mark; marks = rest.marks; here = rest.here; behind = rest.behind }
+
+pub end_grows : (from to : ℕ) (marks : List Mark) → InOrder from marks to → from ≤ end_of from marks
+end_grows from to marks lies = bounds from (end_of from marks) marks (lies_closely from to marks lies)
+
+pub end_within : (from to : ℕ) (marks : List Mark) → InOrder from marks to → end_of from marks ≤ to
+end_within from to [] lies = lies
+end_within from to (mark ∷ marks) lies = end_within mark.end to marks lies.2
+
+-- more elements end later
+pub end_more : (n m from to : ℕ) (marks : List Mark) → n ≤ m → InOrder from marks to → end_of from (take n marks) ≤ end_of from (take m marks)
+end_more zero m from to marks less lies = end_grows from to (take m marks) (lies_take m from to marks lies)
+end_more (suc n) zero from to marks less lies = absurd (omega (arith, less))
+end_more (suc n) (suc m) from to [] less lies = omega arith
+end_more (suc n) (suc m) from to (mark ∷ marks) less lies = end_more n m mark.end to marks (omega (arith, less)) lies.2
+
+-- the end of so many elements is that of the last
+pub end_at : (n from : ℕ) (marks others : List Mark) (mark : Mark) → drop n marks ≡ mark ∷ others → end_of from (take (suc n) marks) ≡ mark.end
+end_at zero from [] others mark is = cc
+end_at zero from (first ∷ marks) others mark is = let same : first ≡ mark = cc in ap (λ m. m.end) same
+end_at (suc n) from [] others mark is = cc
+end_at (suc n) from (first ∷ marks) others mark is = end_at n first.end marks others mark is
+
+pub mark_lies : (from to : ℕ) (mark : Mark) (marks : List Mark) → InOrder from (mark ∷ marks) to → Between from to (span_of mark)
+mark_lies from to mark marks lies = record { begins = lies.0; some = lies.1.some; ends = bounds mark.end to marks lies.2 }
+
+-- a name's own text
+pub name_lies : (from to : ℕ) (mark : Mark) (marks : List Mark) → InOrder from (mark ∷ marks) to → Between from mark.end (name_of mark)
+name_lies from to mark marks lies =
+    elim (is_quoted mark) as (λ b. is_quoted mark ≡ b → Between from mark.end (if b then between mark else span_of mark)) [
+      | true ↦ λ is. record { begins = omega (arith, lies.0, lies.1.name is); some = omega (arith, lies.1.name is); ends = omega arith }
+      | false ↦ λ is. record { begins = lies.0; some = lies.1.some; ends = omega arith }
+    ] refl
+
+pub whole_lies : (from to : ℕ) (marks : List Mark) → InOrder from marks to → MayLie from (whole marks) to
+whole_lies from to [] lies = tt
+whole_lies from to (mark ∷ marks) lies = record { begins = lies.0; some = omega (arith, lies.1.some, end_grows mark.end to marks lies.2); ends = end_within mark.end to marks lies.2 }

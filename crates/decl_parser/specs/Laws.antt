@@ -4,7 +4,7 @@ use Rattle.swift_lexer.specs.declared.token.Token.{Token}
 use Rattle.swift_lexer.specs.Tiles.{TokensTile}
 use Rattle.swift_tree.specs.declared.outline.Shape.{Shape}
 use Rattle.swift_tree.specs.Outlines.{OutlineSeen}
-use Rattle.decl_parser.specs.Nesting.{UsesLie, ItemsLie}
+use Rattle.decl_parser.specs.Nesting.{OutlineLies}
 use Rattle.decl_parser.specs.Outline.{OutlineOutcome, IsOutline, read_tokens}
 
 -- a text has at most one outline or fault for a shape
@@ -23,6 +23,6 @@ OutlineKeepsTheText = (text : List ℕ) (shape : Shape) (seen : OutlineSeen) →
 abbrev pub AcceptedTextsTile : Type 0
 AcceptedTextsTile = (text : List ℕ) (shape : Shape) (seen : OutlineSeen) → IsOutline text shape (Ok seen) → (tokens : List Token) × (read_tokens text ≡ Ok tokens) × TokensTile text tokens
 
--- the declarations of an accepted text lie in it in order, and so do the uses of an expression and of accessors
+-- all that an outline holds lies in its text, in order
 abbrev pub SpansInOrder : Type 0
-SpansInOrder = (text : List ℕ) (shape : Shape) (seen : OutlineSeen) → IsOutline text shape (Ok seen) → ItemsLie 0 seen.items (length text) × UsesLie 0 seen.uses (length text)
+SpansInOrder = (text : List ℕ) (shape : Shape) (seen : OutlineSeen) → IsOutline text shape (Ok seen) → OutlineLies (length text) seen

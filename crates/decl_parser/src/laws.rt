@@ -22,7 +22,8 @@ pub fn accepted_texts_tile()
     ensures { AcceptedTextsTile }
 {}
 
-/// Declarations, their blocks, the members of these and the macro uses lie in the text in order, nested or apart.
+/// All that an outline holds lies in its text in order: declarations, their blocks and members, and the names,
+/// bindings, types, attributes and macro uses of each.
 pub fn spans_in_order()
     ensures { SpansInOrder }
 {}
