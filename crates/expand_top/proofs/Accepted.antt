@@ -1,7 +1,7 @@
 -- What holds of an accepted text, of its tokens, and of its groups.
-use Rattle.std.proofs.Common.{◌≡◌, ◌⊎◌, inl, inr, refl, sym, subst, arith, ℕ, ◌≤◌, List, [], ◌∷◌, length, Result, Ok, Err, Bool, true, false}
+use Rattle.std.proofs.Common.{◌≡◌, inl, inr, sym, subst, ℕ, ◌≤◌, List, [], ◌∷◌, length, Ok, Err}
 use Rattle.std.specs.Prelude.{nat_lt}
-use Rattle.std.specs.List.{All, AllByRecursion}
+use Rattle.std.specs.List.{AllByRecursion}
 use Rattle.std.specs.Str.{IsUtf8}
 use Rattle.std.proofs.lemmas.Bool.{ltb-false}
 use Rattle.std.proofs.lemmas.List.Elements.{recursion_from_All}
@@ -9,7 +9,7 @@ use Rattle.swift_lexer.specs.declared.token.Token.{Token}
 use Rattle.swift_lexer.specs.Characters.{IsOfCharacters}
 use Rattle.swift_lexer.specs.Tokens.{Outcome, IsLexed}
 use Rattle.swift_lexer.specs.Tiles.{IsTile}
-use Rattle.swift_lexer.specs.Trees.{Forest, forest_tokens}
+use Rattle.swift_lexer.specs.Trees.{Forest}
 use Rattle.swift_lexer.specs.Groups.{GroupOutcome, IsGrouped}
 use Rattle.swift_lexer.specs.Bracketing.{groups_of}
 use Rattle.swift_lexer.proofs.Characters.{accepted_texts_are_utf8, tokens_are_of_characters}

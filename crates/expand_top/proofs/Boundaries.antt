@@ -1,16 +1,14 @@
 -- Where tokens begin and end, and what lies between such places.
-use Rattle.std.proofs.Common.{◌≡◌, ◌⊎◌, inl, inr, refl, sym, ap, subst, arith, ◌∙◌, ℕ, zero, suc, ◌+◌, ◌-◌, ◌<◌, ◌≤◌, ◌==◌, List, [], ◌∷◌, ◌++◌, length, take, drop, slice_range, Bool, true, false, if◌then◌else◌}
-use Rattle.std.specs.Prelude.{min, slice_index, ◌^◌}
+use Rattle.std.proofs.Common.{◌≡◌, inl, inr, refl, sym, ap, subst, arith, ◌∙◌, ℕ, zero, suc, ◌+◌, ◌-◌, ◌<◌, ◌≤◌, List, [], ◌∷◌, ◌++◌, length, take, drop, slice_range, Bool, true, false, if◌then◌else◌}
+use Rattle.std.specs.Prelude.{min, slice_index}
 use Rattle.std.specs.Str.{IsCharBoundary, IsUtf8, encode_utf8_all}
-use Rattle.std.proofs.Math.Utf8.{encode}
 use Rattle.std.proofs.lemmas.Bool.{cases_lt, eqb-true}
 use Rattle.std.proofs.lemmas.List.{drop-drop, drop-take, get_or-drop, get_or-take, get_or_push, length-append, length-drop, length-take, take-take}
 use Rattle.std.proofs.lemmas.Str.{IsCharBoundary-after_ascii, IsCharBoundary-before_ascii, IsUtf8-between, IsUtf8-nil, byte_from_char, encode_ascii, encodes-append}
 use Rattle.swift_lexer.specs.declared.chars.TheConstants.{POUND, QUOTE}
-use Rattle.swift_lexer.specs.declared.token.Class.{Class}
 use Rattle.swift_lexer.specs.declared.token.Class.TheVariants as class
 use Rattle.swift_lexer.specs.declared.token.Token.{Token}
-use Rattle.swift_lexer.specs.Spellings.{IsString, IsToken, Spells}
+use Rattle.swift_lexer.specs.Spellings.{IsString, Spells}
 use Rattle.swift_lexer.specs.Strings.{quotes_of}
 use Rattle.swift_lexer.specs.Texts.{times}
 use Rattle.swift_lexer.specs.Tiles.{IsTile, bytes_of}
@@ -126,15 +124,15 @@ pub part_of_part : (text : List ℕ) (at size from to : ℕ) → to ≤ size →
 part_of_part text at size from to within =
     elim (cases_lt to from) [
       | inl past ↦
-        let none : to - from ≡ 0 = omega (arith, past) in
-        let also : 0 ≡ (at + to) - (at + from) = omega (arith, past) in
-        ap (λ n. take n (drop from (take size (drop at text)))) none ∙ ap (λ n. take n (drop (at + from) text)) also
+          let none : to - from ≡ 0 = omega (arith, past) in
+          let also : 0 ≡ (at + to) - (at + from) = omega (arith, past) in
+          ap (λ n. take n (drop from (take size (drop at text)))) none ∙ ap (λ n. take n (drop (at + from) text)) also
       | inr less ↦
-        let whole : size ≡ from + (size - from) = omega (arith, less, within) in
-        let same : to - from ≡ (at + to) - (at + from) = omega (arith, less) in
-        ap (λ n. take (to - from) (drop from (take n (drop at text)))) whole
-        ∙ ap (take (to - from)) (drop-take from (size - from) (drop at text))
-        ∙ take-take (to - from) (size - from) (drop from (drop at text)) (omega (arith, less, within))
-        ∙ ap (take (to - from)) (drop-drop from at text)
-        ∙ ap (λ n. take n (drop (at + from) text)) same
+          let whole : size ≡ from + (size - from) = omega (arith, less, within) in
+          let same : to - from ≡ (at + to) - (at + from) = omega (arith, less) in
+          ap (λ n. take (to - from) (drop from (take n (drop at text)))) whole
+          ∙ ap (take (to - from)) (drop-take from (size - from) (drop at text))
+          ∙ take-take (to - from) (size - from) (drop from (drop at text)) (omega (arith, less, within))
+          ∙ ap (take (to - from)) (drop-drop from at text)
+          ∙ ap (λ n. take n (drop (at + from) text)) same
     ]

@@ -1,8 +1,8 @@
 -- The texts of the macro uses of an accepted text are UTF-8, at every depth.
-use Rattle.std.proofs.Common.{◌≡◌, refl, ℕ, zero, suc, ◌+◌, ◌-◌, ◌==◌, List, [], ◌∷◌, ◌++◌, length, take, drop, Option, Some, None, Ok, Bool, true, false, if◌then◌else◌}
+use Rattle.std.proofs.Common.{◌≡◌, refl, ℕ, zero, suc, ◌+◌, ◌-◌, ◌==◌, List, [], ◌∷◌, ◌++◌, length, take, drop, Option, Some, None, Bool, true, false, if◌then◌else◌}
 use Rattle.std.specs.Prelude.{min, nat_lt, reverse}
 use Rattle.std.specs.List.{AllByRecursion, flat_map}
-use Rattle.std.specs.Str.{IsCharBoundary, IsUtf8}
+use Rattle.std.specs.Str.{IsUtf8}
 use Rattle.std.proofs.lemmas.Str.{IsUtf8-nil}
 use Rattle.swift_base.specs.declared.place.Span.{Span}
 use Rattle.swift_lexer.specs.Trees.{Tree, leaf, nest, Forest, none, cons}

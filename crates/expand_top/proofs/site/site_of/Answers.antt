@@ -15,5 +15,5 @@ pub returns-in-Some-plugin_for-clause-readable : goal.returns-in-Some-plugin_for
 returns-in-Some-plugin_for-clause-readable c = (
   MatchOption-at_some _ (IsUseReadable c.args.text.now) c.in-Some.macro_use c.in-Some.is c.requires.macro_use,
   readable c.args.text.now c.in-Some.macro_use c.args.form.now.declarations c.in-Some-declaration_for.declaration c.requires.declarations
-  (ap (declaration_for c.args.text.now c.in-Some.macro_use) (sym c.items.ensures) ∙ sym c.declaration_for.ensures ∙ c.in-Some-declaration_for.is),
+      (ap (declaration_for c.args.text.now c.in-Some.macro_use) (sym c.items.ensures) ∙ sym c.declaration_for.ensures ∙ c.in-Some-declaration_for.is),
 )
