@@ -4,7 +4,11 @@ use Rattle.std.specs.List.{All, find}
 use Rattle.std.proofs.lemmas.List.Elements.{All-head, All-tail}
 use Rattle.std.specs.Str.{bytes_eq}
 use Rattle.swift_base.specs.declared.plugins.Plugin.{Plugin}
-use Rattle.expand_top.specs.Site.{plugin_for, IsStartable}
+use Rattle.swift_tree.specs.declared.item.MacroUse.{MacroUse}
+use Rattle.expand_top.specs.Elements.{text_at}
+use Rattle.expand_top.specs.Reading.{IsDeclarationReadable}
+use Rattle.expand_top.specs.Site.{declaration_for, plugin_for, IsStartable}
+use Rattle.expand_top.specs.declared.declarations.Declaration.{Declaration}
 use Rattle.expand_top.proofs.Requests.{none_some}
 
 some_is : {A : Type 0} (P : A → Type 0) (x y : A) → Some x ≡ Some y → P x → P y
@@ -21,3 +25,7 @@ found P test (x ∷ xs) y all is =
 
 pub startable : (module_name : List ℕ) (plugins : List Plugin) (plugin : Plugin) → All IsStartable plugins → plugin_for module_name plugins ≡ Some plugin → IsStartable plugin
 startable module_name plugins plugin all is = found IsStartable (λ plugin. bytes_eq plugin.module module_name) plugins plugin all is
+
+pub readable : (text : List ℕ) (macro_use : MacroUse) (declarations : List Declaration) (declaration : Declaration) → All (IsDeclarationReadable text) declarations → declaration_for text macro_use declarations ≡ Some declaration → IsDeclarationReadable text declaration
+readable text macro_use declarations declaration all is =
+    found (IsDeclarationReadable text) (λ d. bytes_eq (text_at text d.name) (text_at text macro_use.name)) declarations declaration all is

@@ -8,3 +8,9 @@ pub mod LastParts
 pub mod Outlines
 pub mod Lines
 pub mod Replies
+pub mod Boundaries
+pub mod MarkBoundaries
+pub mod UsesReadable
+pub mod Accepted
+pub mod LinesReadable
+pub mod FormsReadable

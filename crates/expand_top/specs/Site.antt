@@ -9,6 +9,7 @@ use Rattle.unique_names.specs.declared.step.KeyStep.{KeyStep}
 use Rattle.unique_names.specs.declared.role.Role.TheVariants as role
 use Rattle.plugin_frames.specs.Frames.{frame_of}
 use Rattle.expand_top.specs.Elements.{text_at}
+use Rattle.expand_top.specs.Reading.{IsDeclarationReadable, IsUseReadable}
 use Rattle.expand_top.specs.declared.reading.SourceForm.{SourceForm}
 use Rattle.plugin_messages.specs.RequestBytes.{greeting, host_of, host_payload_of}
 use Rattle.plugin_messages.specs.declared.request.Location.{Location}
@@ -62,6 +63,13 @@ HasPlugin text plugins (site.NoPlugin macro_use declaration) = Unit {0}
 HasPlugin text plugins (site.Asks macro_use declaration) =
     (plugin : Plugin) × (plugin_for (text_at text declaration.module_name) plugins ≡ Some plugin)
 
+-- where a plug-in is to be asked, the texts that it is given are UTF-8
+abbrev pub IsSiteReadable : List ℕ → Site → Type 0
+IsSiteReadable text site.Nothing = Unit {0}
+IsSiteReadable text (site.Unknown macro_use) = Unit {0}
+IsSiteReadable text (site.NoPlugin macro_use declaration) = Unit {0}
+IsSiteReadable text (site.Asks macro_use declaration) = IsUseReadable text macro_use × IsDeclarationReadable text declaration
+
 -- the key of a use's request: its offset, the role, no member
 abbrev pub key_of : MacroUse → KeySteps
 key_of macro_use = record { offset = macro_use.span.start; role = role.Expression; member = 0 } ∷ []
@@ -81,7 +89,7 @@ last_part (byte ∷ bytes) = if list_any (λ b. b == 47) (byte ∷ bytes) then l
 abbrev pub file_id : List ℕ → List ℕ
 file_id name = codes "main/" ++ last_part name
 
--- a place of the source
+-- a place of the source; in the file's name and id replacement characters stand for what is no UTF-8
 unfoldable pub location_of : List ℕ → List ℕ → ℕ → Location
 location_of name text at = record {
   file_id = utf8_lossy (file_id name);
@@ -93,19 +101,19 @@ location_of name text at = record {
 
 unfoldable pub target_of : List ℕ → MacroUse → Declaration → MacroRef
 target_of text macro_use declaration = record {
-  «module» = utf8_lossy (text_at text declaration.module_name);
-  type_name = utf8_lossy (text_at text declaration.type_name);
-  name = utf8_lossy (text_at text macro_use.name);
+  «module» = text_at text declaration.module_name;
+  type_name = text_at text declaration.type_name;
+  name = text_at text macro_use.name;
 }
 
 unfoldable pub syntax_of : List ℕ → List ℕ → MacroUse → Syntax
 syntax_of name text macro_use = record {
   kind = kind.Expression;
-  source = utf8_lossy (text_at text macro_use.span);
+  source = text_at text macro_use.span;
   location = Some (location_of name text macro_use.span.start);
 }
 
--- the request for a use; a text in it that is no UTF-8 has replacement characters
+-- the request for a use
 unfoldable pub request_of : List ℕ → List ℕ → MacroUse → Declaration → Request
 request_of name text macro_use declaration = record {
   key = key_of macro_use;

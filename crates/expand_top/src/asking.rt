@@ -4,7 +4,8 @@ ghost use Rattle.std.specs.List.{All};
 ghost use Rattle.swift_base.specs.Outside.{IsFreshWriter, IsFreshReader};
 ghost use Rattle.expand_top.specs.Elements.{text_at};
 ghost use Rattle.expand_top.specs.Run.{IsAsked, IsSpokenWith, IsAskedAt, IsAskedFor, asking_of, link_seen};
-ghost use Rattle.expand_top.specs.Site.{plugin_for, HasPlugin, IsStartable};
+ghost use Rattle.expand_top.specs.Reading.{IsDeclarationReadable, IsUseReadable};
+ghost use Rattle.expand_top.specs.Site.{plugin_for, HasPlugin, IsSiteReadable, IsStartable};
 
 use crate::declarations::Declaration;
 use crate::link::{Closed, Spoken, Unstarted, outcome_of, speak};
@@ -143,6 +144,7 @@ pub fn ask_at<P: Starter>(
     requires short { length text.now < 2 ^ 32 - 1 }
     requires commands { All IsStartable plugins.now }
     requires served { HasPlugin text.now plugins.now site }
+    requires readable { IsSiteReadable text.now site }
     ensures { IfOk result (λ a. IsAskedAt name.now plugins.now text.now site
         (asking_of (map (link_seen P.Writer.seen P.Reader.seen) a.links.items) a.unstarted.items (P.seen starter.old) (P.seen starter.new)) a.outcome) }
 {
@@ -165,6 +167,8 @@ fn ask_for<P: Starter>(
     requires short { length text.now < 2 ^ 32 - 1 }
     requires commands { All IsStartable plugins.now }
     requires served { (plugin : _) × (plugin_for (text_at text.now declaration.module_name) plugins.now ≡ Some plugin) }
+    requires macro_use { IsUseReadable text.now macro_use }
+    requires declaration { IsDeclarationReadable text.now declaration }
     ensures { IfOk result (λ a. IsAskedFor name.now plugins.now text.now macro_use declaration
         (asking_of (map (link_seen P.Writer.seen P.Reader.seen) a.links.items) a.unstarted.items (P.seen starter.old) (P.seen starter.new)) a.outcome) }
 {

@@ -6,7 +6,7 @@ ghost use Rattle.expand_top.specs.declared.command.Command.TheVariants as Comman
 ghost use Rattle.expand_top.specs.Command.{command_of, expands, plugins_of};
 ghost use Rattle.expand_top.specs.Run.{IsDelivered, GainsAll, GainsFront, ReadsSource, IsExpansionAt, IsExpansionOf, IsExpansion, NothingAsked, CanExpand, IsRefused, IsUnwritten, Expands, asking_of, link_seen, unread, usage};
 ghost use Rattle.expand_top.specs.Promises.{AskedOnce, LinksServe, KeepsBytes, StatusHasCause};
-ghost use Rattle.expand_top.specs.Site.{HasPlugin, IsStartable};
+ghost use Rattle.expand_top.specs.Site.{HasPlugin, IsSiteReadable, IsStartable};
 ghost use Rattle.expand_top.specs.Starts.{Starts, StopsHaveCause, FailedStartsHaveCause};
 ghost use Rattle.std.specs.List.{All};
 ghost use Rattle.expand_top.specs.Answer.{output_seen, refuses, refuses_at, not_built_at};
@@ -136,6 +136,7 @@ fn expand_site<P: Starter>(
     requires short { length text.now < 2 ^ 32 - 1 }
     requires commands { All IsStartable plugins.now }
     requires served { HasPlugin text.now plugins.now site }
+    requires readable { IsSiteReadable text.now site }
     ensures { IfOk result (λ e. IsExpansionAt name.now plugins.now text.now declarations.now site
         (asking_of (map (link_seen P.Writer.seen P.Reader.seen) e.links.items) e.unstarted.items (P.seen starter.old) (P.seen starter.new)) (output_seen e.output)) }
 {

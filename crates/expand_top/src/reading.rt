@@ -1,7 +1,7 @@
 // What a source means, as far as sources are expanded yet.
 ghost use Rattle.std.specs.Prelude.{◌≡◌, IfOk};
 ghost use Rattle.swift_tree.specs.Outlines.{items_of};
-ghost use Rattle.expand_top.specs.Reading.{reading_of_items, reading_of};
+ghost use Rattle.expand_top.specs.Reading.{IsReadableIfBuilt, reading_of_items, reading_of};
 
 use crate::declarations::Declaration;
 use crate::heads::{all_uses, heads};
@@ -46,9 +46,8 @@ fn reading_of_items(alloc: Global, text: &[u8], items: &[Item]) -> Result<Readin
     }
 }
 
-/// What a source means.
 #[tactic(auto, unfolding(crate::specs::Reading::reading_of))]
-pub fn reading_of(alloc: Global, text: &[u8]) -> Result<Reading, AllocError>
+fn meaning_of(alloc: Global, text: &[u8]) -> Result<Reading, AllocError>
     ensures { IfOk result (λ reading. reading ≡ reading_of text.now) }
 {
     match parse_file(alloc, text) {
@@ -56,4 +55,13 @@ pub fn reading_of(alloc: Global, text: &[u8]) -> Result<Reading, AllocError>
         Err(Refusal::Memory) => Err(AllocError),
         Err(Refusal::Fault(fault)) => Ok(Reading::Refused(fault)),
     }
+}
+
+/// What a source means; the texts of its macros and of its use are UTF-8.
+#[tactic(auto, using(crate::proofs::FormsReadable::readable_if_ok))]
+pub fn reading_of(alloc: Global, text: &[u8]) -> Result<Reading, AllocError>
+    ensures reading { IfOk result (λ reading. reading ≡ reading_of text.now) }
+    ensures readable { IfOk result (λ reading. IsReadableIfBuilt text.now reading) }
+{
+    meaning_of(alloc, text)
 }

@@ -7,7 +7,8 @@ ghost use Rattle.std.specs.Str.{IsUtf8};
 ghost use Rattle.std.specs.Str.Lossy.{utf8_lossy};
 ghost use Rattle.plugin_messages.specs.Writable.{IsLocationWritable, IsMacroWritable, IsSyntaxWritable, IsRequestWritable};
 ghost use Rattle.expand_top.specs.Elements.{text_at};
-ghost use Rattle.expand_top.specs.Site.{declaration_for, plugin_for, IsStartable, site_at, site_by, site_of_use, site_of, HasPlugin, key_of, last_part, file_id, location_of, target_of, syntax_of, request_of, sent_for};
+ghost use Rattle.expand_top.specs.Reading.{IsDeclarationReadable, IsReadable, IsUseReadable};
+ghost use Rattle.expand_top.specs.Site.{IsSiteReadable, declaration_for, plugin_for, IsStartable, site_at, site_by, site_of_use, site_of, HasPlugin, key_of, last_part, file_id, location_of, target_of, syntax_of, request_of, sent_for};
 
 use crate::declarations::Declaration;
 use crate::elements::{front, text_at};
@@ -83,8 +84,10 @@ pub fn command_for<'a>(module_name: &[u8], plugins: &'a [Plugin]) -> &'a str
 /// What stands at the use of a source.
 #[tactic(auto, unfolding(crate::specs::Site::site_of))]
 pub fn site_of(text: &[u8], plugins: &[Plugin], form: &SourceForm) -> Site
+    requires { IsReadable text.now form.now }
     ensures site { result ≡ site_of text.now plugins.now form.now }
     ensures served { HasPlugin text.now plugins.now result }
+    ensures readable { IsSiteReadable text.now result }
 {
     let Some(macro_use) = form.macro_use else {
         return Site::Nothing;
@@ -183,12 +186,14 @@ fn target_of(
     macro_use: MacroUse,
     declaration: Declaration,
 ) -> Result<MacroRef, AllocError>
+    requires macro_use { IsUseReadable text.now macro_use }
+    requires declaration { IsDeclarationReadable text.now declaration }
     ensures target { IfOk result (λ target. target ≡ target_of text.now macro_use declaration) }
     ensures writable { IfOk result IsMacroWritable }
 {
-    let module = readable(alloc, text_at(text, declaration.module_name))?;
-    let type_name = readable(alloc, text_at(text, declaration.type_name))?;
-    let name = readable(alloc, text_at(text, macro_use.name))?;
+    let module = copied(alloc, text, declaration.module_name)?;
+    let type_name = copied(alloc, text, declaration.type_name)?;
+    let name = copied(alloc, text, macro_use.name)?;
     Ok(MacroRef {
         module,
         type_name,
@@ -203,11 +208,12 @@ fn syntax_of(
     text: &[u8],
     macro_use: MacroUse,
 ) -> Result<Syntax, AllocError>
-    requires { length text.now < 2 ^ 32 - 1 }
+    requires short { length text.now < 2 ^ 32 - 1 }
+    requires macro_use { IsUseReadable text.now macro_use }
     ensures syntax { IfOk result (λ syntax. syntax ≡ syntax_of name.now text.now macro_use) }
     ensures writable { IfOk result IsSyntaxWritable }
 {
-    let source = readable(alloc, text_at(text, macro_use.span))?;
+    let source = copied(alloc, text, macro_use.span)?;
     let location = location_of(alloc, name, text, macro_use.span.start)?;
     Ok(Syntax {
         kind: SyntaxKind::Expression,
@@ -225,7 +231,9 @@ pub fn request_of(
     macro_use: MacroUse,
     declaration: Declaration,
 ) -> Result<Request, AllocError>
-    requires { length text.now < 2 ^ 32 - 1 }
+    requires short { length text.now < 2 ^ 32 - 1 }
+    requires macro_use { IsUseReadable text.now macro_use }
+    requires declaration { IsDeclarationReadable text.now declaration }
     ensures request { IfOk result (λ request. request ≡ request_of name.now text.now macro_use declaration) }
     ensures writable { IfOk result IsRequestWritable }
 {
