@@ -17,7 +17,8 @@ use Rattle.decl_parser.proofs.Accepting.{then_ok}
 use Rattle.decl_parser.proofs.Outcomes.{OkHolds, ok_then, ok_at}
 use Rattle.expand_top.specs.Elements.{text_at}
 use Rattle.expand_top.specs.Declarations.{declaration_in}
-use Rattle.expand_top.specs.Reading.{IsDeclarationReadable, IsReadable, IsReadableIfBuilt, IsUseReadable, all_uses, form_of, heads, is_macro, least, macros_from, macros_of, names_macro, not_built_places, one_more, one_other, outer_heads, reading_by, reading_of, reading_of_items, unless_at, with_head, with_line}
+use Rattle.expand_top.specs.Readable.{IsDeclarationReadable, IsReadable, IsReadableIfBuilt, IsUseReadable}
+use Rattle.expand_top.specs.Reading.{all_uses, form_of, heads, is_macro, least, macros_from, macros_of, names_macro, not_built_places, one_more, one_other, outer_heads, reading_by, reading_of, reading_of_items, unless_at, with_head, with_line}
 use Rattle.expand_top.specs.declared.declarations.Declaration.{Declaration}
 use Rattle.expand_top.specs.declared.macros.Macros.{Macros}
 use Rattle.expand_top.specs.declared.reading.Reading.{Reading}

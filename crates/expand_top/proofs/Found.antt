@@ -6,7 +6,7 @@ use Rattle.std.specs.Str.{bytes_eq}
 use Rattle.swift_base.specs.declared.plugins.Plugin.{Plugin}
 use Rattle.swift_tree.specs.declared.item.MacroUse.{MacroUse}
 use Rattle.expand_top.specs.Elements.{text_at}
-use Rattle.expand_top.specs.Reading.{IsDeclarationReadable}
+use Rattle.expand_top.specs.Readable.{IsDeclarationReadable}
 use Rattle.expand_top.specs.Site.{declaration_for, plugin_for, IsStartable}
 use Rattle.expand_top.specs.declared.declarations.Declaration.{Declaration}
 use Rattle.expand_top.proofs.Requests.{none_some}

@@ -16,7 +16,7 @@ use Rattle.decl_parser.specs.declared.fault.ParseFault.{ParseFault}
 use Rattle.decl_parser.specs.Outline.{elements_of}
 use Rattle.expand_top.specs.Elements.{Round, leaf_at, round_at, round_of, spells, text_at, trees_in}
 use Rattle.expand_top.specs.Declarations.{begins_with_quote, declaration_by, declaration_in, declaration_line, declared, holds_escape, inside_of, is_declaration, is_string, is_word, line_among, line_in, moved, moved_declaration, names_external, quoted, quoted_at, word_at}
-use Rattle.expand_top.specs.Reading.{IsDeclarationReadable}
+use Rattle.expand_top.specs.Readable.{IsDeclarationReadable}
 use Rattle.expand_top.specs.declared.declarations.Declaration.{Declaration}
 use Rattle.expand_top.proofs.Boundaries.{before_last, behind_quote, part_of_part, utf8_between}
 use Rattle.expand_top.proofs.MarkBoundaries.{IsPlaced, IsTreePlaced, IsForestPlaced}

@@ -29,7 +29,8 @@ use Rattle.decl_parser.specs.Cut.{MembersRead, all_ends, assembled, beginning, b
 use Rattle.decl_parser.specs.Attributes.{span_from}
 use Rattle.decl_parser.specs.Levels.{read_inside, inside_of, insides, members_of, members, items_of_list}
 use Rattle.decl_parser.proofs.Outcomes.{OkHolds, ok_then, ok_if, ok_at}
-use Rattle.expand_top.specs.Reading.{IsUseReadable, heads, heads_from, heads_in, uses_of, all_uses}
+use Rattle.expand_top.specs.Readable.{IsUseReadable}
+use Rattle.expand_top.specs.Reading.{heads, heads_from, heads_in, uses_of, all_uses}
 use Rattle.expand_top.proofs.Boundaries.{utf8_between}
 use Rattle.expand_top.proofs.MarkBoundaries.{IsBounded, IsTreePlaced, IsForestPlaced, each_take, each_drop, each_append, end_bounded, level_bounded}
 

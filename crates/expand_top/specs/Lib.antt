@@ -5,6 +5,7 @@ pub mod Elements
 pub mod Faults
 pub mod Link
 pub mod Promises
+pub mod Readable
 pub mod Reading
 pub mod Run
 pub mod Site

@@ -1,8 +1,7 @@
 -- What a source means, as far as sources are expanded yet: this project's own, after SE-0382 and SE-0389.
 use Rattle.std.specs.Prelude.{ℕ, ◌&&◌, not, min, if◌then◌else◌, Bool, true, false, Option, Some, None, Ok, Err, List, [], ◌∷◌, ◌++◌, map, drop, slice_get}
-use Rattle.std.specs.List.{All, flat_map, list_any}
-use Rattle.std.specs.Option.{IfSome}
-use Rattle.std.specs.Str.{IsUtf8, bytes_eq}
+use Rattle.std.specs.List.{flat_map, list_any}
+use Rattle.std.specs.Str.{bytes_eq}
 use Rattle.swift_tree.specs.declared.item.Kind.{Kind}
 use Rattle.swift_tree.specs.declared.item.Kind.TheVariants as kind
 use Rattle.swift_tree.specs.declared.item.MacroUse.{MacroUse}
@@ -138,27 +137,6 @@ reading_by text (Err fault) = reading.Refused fault
 -- what a source means: its first fault, the first place of what is not expanded yet, or its macros and its use
 unfoldable pub reading_of : List ℕ → Reading
 reading_of text = reading_by text (outline text File)
-
--- the texts of a declaration are UTF-8
-pub record IsDeclarationReadable (text : List ℕ) (declaration : Declaration) : Type 0 where
-  pub name : IsUtf8 (text_at text declaration.name)
-  pub module_name : IsUtf8 (text_at text declaration.module_name)
-  pub type_name : IsUtf8 (text_at text declaration.type_name)
-
--- the texts of a use are UTF-8
-pub record IsUseReadable (text : List ℕ) (macro_use : MacroUse) : Type 0 where
-  pub span : IsUtf8 (text_at text macro_use.span)
-  pub name : IsUtf8 (text_at text macro_use.name)
-
--- each text of the declarations and of the use is UTF-8
-pub record IsReadable (text : List ℕ) (form : SourceForm) : Type 0 where
-  pub declarations : All (IsDeclarationReadable text) form.declarations
-  pub macro_use : IfSome form.macro_use (IsUseReadable text)
-
-abbrev pub IsReadableIfBuilt : List ℕ → Reading → Type 0
-IsReadableIfBuilt text (reading.Refused fault) = Unit {0}
-IsReadableIfBuilt text (reading.NotBuilt at) = Unit {0}
-IsReadableIfBuilt text (reading.Built form) = IsReadable text form
 
 -- a declaration of the code without its block
 abbrev pub head_of : Item → Head

@@ -9,7 +9,7 @@ use Rattle.unique_names.specs.declared.step.KeyStep.{KeyStep}
 use Rattle.unique_names.specs.declared.role.Role.TheVariants as role
 use Rattle.plugin_frames.specs.Frames.{frame_of}
 use Rattle.expand_top.specs.Elements.{text_at}
-use Rattle.expand_top.specs.Reading.{IsDeclarationReadable, IsUseReadable}
+use Rattle.expand_top.specs.Readable.{IsDeclarationReadable, IsUseReadable}
 use Rattle.expand_top.specs.declared.reading.SourceForm.{SourceForm}
 use Rattle.plugin_messages.specs.RequestBytes.{greeting, host_of, host_payload_of}
 use Rattle.plugin_messages.specs.declared.request.Location.{Location}

@@ -4,7 +4,7 @@ ghost use Rattle.std.specs.List.{All};
 ghost use Rattle.swift_base.specs.Outside.{IsFreshWriter, IsFreshReader};
 ghost use Rattle.expand_top.specs.Elements.{text_at};
 ghost use Rattle.expand_top.specs.Run.{IsAsked, IsSpokenWith, IsAskedAt, IsAskedFor, asking_of, link_seen};
-ghost use Rattle.expand_top.specs.Reading.{IsDeclarationReadable, IsUseReadable};
+ghost use Rattle.expand_top.specs.Readable.{IsDeclarationReadable, IsUseReadable};
 ghost use Rattle.expand_top.specs.Site.{plugin_for, HasPlugin, IsSiteReadable, IsStartable};
 
 use crate::declarations::Declaration;

@@ -1,7 +1,8 @@
 // What a source means, as far as sources are expanded yet.
 ghost use Rattle.std.specs.Prelude.{◌≡◌, IfOk};
 ghost use Rattle.swift_tree.specs.Outlines.{items_of};
-ghost use Rattle.expand_top.specs.Reading.{IsReadableIfBuilt, reading_of_items, reading_of};
+ghost use Rattle.expand_top.specs.Readable.{IsReadableIfBuilt};
+ghost use Rattle.expand_top.specs.Reading.{reading_of_items, reading_of};
 
 use crate::declarations::Declaration;
 use crate::heads::{all_uses, heads};
@@ -58,7 +59,6 @@ fn meaning_of(alloc: Global, text: &[u8]) -> Result<Reading, AllocError>
 }
 
 /// What a source means; the texts of its macros and of its use are UTF-8.
-#[tactic(auto, using(crate::proofs::FormsReadable::readable_if_ok))]
 pub fn reading_of(alloc: Global, text: &[u8]) -> Result<Reading, AllocError>
     ensures reading { IfOk result (λ reading. reading ≡ reading_of text.now) }
     ensures readable { IfOk result (λ reading. IsReadableIfBuilt text.now reading) }

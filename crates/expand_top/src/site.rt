@@ -7,7 +7,7 @@ ghost use Rattle.std.specs.Str.{IsUtf8};
 ghost use Rattle.std.specs.Str.Lossy.{utf8_lossy};
 ghost use Rattle.plugin_messages.specs.Writable.{IsLocationWritable, IsMacroWritable, IsSyntaxWritable, IsRequestWritable};
 ghost use Rattle.expand_top.specs.Elements.{text_at};
-ghost use Rattle.expand_top.specs.Reading.{IsDeclarationReadable, IsReadable, IsUseReadable};
+ghost use Rattle.expand_top.specs.Readable.{IsDeclarationReadable, IsReadable, IsUseReadable};
 ghost use Rattle.expand_top.specs.Site.{IsSiteReadable, declaration_for, plugin_for, IsStartable, site_at, site_by, site_of_use, site_of, HasPlugin, key_of, last_part, file_id, location_of, target_of, syntax_of, request_of, sent_for};
 
 use crate::declarations::Declaration;

@@ -1,6 +1,6 @@
 use Rattle.std.proofs.Common.{sym, ap, ◌∙◌, option_copied}
 use Rattle.std.proofs.lemmas.Option.{MatchOption-at_some}
-use Rattle.expand_top.specs.Reading.{IsUseReadable}
+use Rattle.expand_top.specs.Readable.{IsUseReadable}
 use Rattle.expand_top.specs.Site.{declaration_for, plugin_for}
 use Rattle.expand_top.proofs.Found.{readable}
 use Rattle.expand_top.proofs.site.site_of.Goals as goal
