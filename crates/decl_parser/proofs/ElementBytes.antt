@@ -78,7 +78,7 @@ quoted_class class.Oper bytes is = not_both (is_quoted_sort (operator_sort bytes
 quoted_class class.LeftBracket bytes is = not_both (is_quoted_sort (group_sort (slice_index bytes 0))) is (plain_group (slice_index bytes 0)).quoted
 quoted_class class.RightBracket bytes is = not_both (is_quoted_sort (group_sort (slice_index bytes 0))) is (plain_group (slice_index bytes 0)).quoted
 
-use_class : (of_class : Class) (bytes : List ℕ) → is_use_sort (leaf_sort of_class bytes) ≡ true → of_class ≡ class.Pound
+pub use_class : (of_class : Class) (bytes : List ℕ) → is_use_sort (leaf_sort of_class bytes) ≡ true → of_class ≡ class.Pound
 use_class class.Word bytes is = cc
 use_class class.Quoted bytes is = cc
 use_class class.Number bytes is = cc

@@ -1,6 +1,6 @@
 -- Declarations, one behind the other.
 use Rattle.std.proofs.Common.{◌≡◌, refl, sym, ap, subst, arith, ◌∙◌, ℕ, zero, suc, ◌+◌, ◌-◌, ◌<◌, ◌≤◌, ◌==◌, List, [], ◌∷◌, ◌++◌, length, take, drop, Option, Some, None, Ok, Bool, true, false, if◌then◌else◌, ◌||◌}
-use Rattle.std.proofs.lemmas.List.{drop-drop, drop-take, length-drop}
+use Rattle.std.proofs.lemmas.List.{drop-drop, drop-take, length-drop, length-take}
 use Rattle.swift_base.specs.declared.place.Span.{Span}
 use Rattle.swift_tree.specs.declared.item.BlockShape.{BlockShape}
 use Rattle.swift_tree.specs.declared.item.BlockShape.TheVariants as shape
@@ -26,13 +26,19 @@ use Rattle.decl_parser.specs.Found.{Found, found_from}
 use Rattle.decl_parser.specs.Parts.{parts, has_members}
 use Rattle.decl_parser.specs.Places.{has_place}
 use Rattle.decl_parser.specs.Cut.{MembersRead, after, all_ends, assembled, beginning, block_of, count_of, cut_from, first_members, head_of, item_at, items_in, kind_of, members_at, members_place, one_item, whole_item, without, placed, starter_of, start_of, use_fits, closed, ends, nothing_more, use_ends}
-use Rattle.decl_parser.specs.Nesting.{Between, UsesLie, StandsBehind, ItemLies, BlockLies, ItemsLie, after_of}
+use Rattle.decl_parser.specs.Nesting.{Between, UsesLie, AttrsLie, StandsBehind, ItemLies, BlockLies, ItemsLie, after_of}
 use Rattle.decl_parser.proofs.Outcomes.{OkHolds, ok_then, ok_if, ok_at}
-use Rattle.decl_parser.proofs.Ordered.{InOrder, Beside, mark_lies, bounds, earlier, lies_take, lies_drop, lies_closely, lies_behind, lies_past, past_semicolon, has_at, beside_none, beside_take, beside_drop}
+use Rattle.decl_parser.proofs.Ordered.{InOrder, Beside, mark_lies, bounds, earlier, lies_take, lies_drop, lies_closely, lies_behind, lies_past, past_semicolon, has_at, beside_none, beside_take, beside_drop, end_grows}
 use Rattle.decl_parser.proofs.FoundInOrder.{InsideLies, FoundLies, found_lies}
 use Rattle.decl_parser.proofs.PartsInOrder.{PartsFit, parts_lie}
 use Rattle.decl_parser.proofs.BlocksInOrder.{BlockBetween, BlockFits, NotMembers, TypeBlock, parts_fit}
 use Rattle.decl_parser.proofs.Accepting.{then_ok}
+use Rattle.swift_tree.specs.declared.item.Attr.{Attr}
+use Rattle.element_marks.specs.Passes.{HeadsKnown}
+use Rattle.element_marks.specs.Heads.{head, head_from}
+use Rattle.element_marks.proofs.Starting.{head_within, known_drop}
+use Rattle.decl_parser.proofs.Wider.{between_wider, attrs_wider}
+use Rattle.decl_parser.proofs.AttributesBefore.{NoModifiers, early}
 use Rattle.decl_parser.proofs.UsesBefore.{AnglesEnd, AreLast, angles_take, uses_end}
 
 -- members lie between the braces of their group
@@ -48,27 +54,36 @@ not_behind shape.Members from to uses not_ = absurd not_
 not_behind shape.Body from to uses not_ = tt
 not_behind shape.Accessors from to uses not_ = tt
 
-plain_block : (whole : Span) (uses : List MacroUse) (at : Option BlockAt) (inner : List ItemSeen) → [] ≡ inner → BlockBetween whole.start whole.end at → BlockLies whole uses (block_of at inner)
-plain_block whole uses None inner same fits = tt
-plain_block whole uses (Some at) inner same fits =
-    (fits.0, not_behind at.shape whole.start at.span.start uses fits.1, subst (λ l. ItemsLie (at.span.start + 1) (items_from l) (at.span.end - 1)) same tt)
+plain_block : (whole : Span) (low : ℕ) (attrs : List Attr) (uses : List MacroUse) (at : Option BlockAt) (inner : List ItemSeen) → [] ≡ inner → whole.start ≤ low → AttrsLie whole.start attrs low → BlockBetween low whole.end at → BlockLies whole attrs uses (block_of at inner)
+plain_block whole low attrs uses None inner same less lie fits = tt
+plain_block whole low attrs uses (Some at) inner same less lie fits = (
+  between_wider whole.start low whole.end whole.end at.span less (omega arith) fits.0,
+  attrs_wider whole.start whole.start low at.span.start attrs (omega arith) fits.0.begins lie,
+  not_behind at.shape whole.start at.span.start uses fits.1,
+  subst (λ l. ItemsLie (at.span.start + 1) (items_from l) (at.span.end - 1)) same tt,
+)
 
 -- the uses end before the braces of the members
 abbrev UsesEnd : Bool → ℕ → List MacroUse → List Mark → Parts → Type 0
 UsesEnd true from uses marks parts = (fits : TypeBlock marks parts) → UsesLie from uses fits.braces.start
 UsesEnd false from uses marks parts = Unit {0}
 
-block_lies : (has : Bool) (whole : Span) (uses : List MacroUse) (head : ℕ) (own : List Mark) (parts : Parts) (members : List MembersRead) (inner : List ItemSeen) → InOrder whole.start own whole.end → Beside MembersLie own members → BlockFits has whole.start whole.end (drop head own) parts
-    → UsesEnd has whole.start uses (drop head own) parts → members_at (if has then Some (head + before is_braces (drop head own)) else None) members ≡ Ok inner → BlockLies whole uses (block_of parts.block inner)
-block_lies false whole uses head own parts members inner lies holds fits ends found = let same : [] ≡ inner = cc in plain_block whole uses parts.block inner same fits
-block_lies true whole uses head own parts members inner lies holds fits ends found =
-    let place = head + before is_braces (drop head own) in
-    let here : drop place own ≡ fits.braces ∷ fits.others = sym (drop-drop (before is_braces (drop head own)) head own) ∙ fits.here in
-    let first : InOrder whole.start (fits.braces ∷ fits.others) whole.end = subst (λ l. InOrder whole.start l whole.end) here (lies_drop place whole.start whole.end own lies) in
+block_lies : (has : Bool) (whole : Span) (low : ℕ) (attrs : List Attr) (uses : List MacroUse) (head : ℕ) (own : List Mark) (parts : Parts) (members : List MembersRead) (inner : List ItemSeen) → whole.start ≤ low → AttrsLie whole.start attrs low → InOrder low (drop head own) whole.end → Beside MembersLie own members → BlockFits has low whole.end (drop head own) parts
+    → UsesEnd has whole.start uses (drop head own) parts → members_at (if has then Some (head + before is_braces (drop head own)) else None) members ≡ Ok inner → BlockLies whole attrs uses (block_of parts.block inner)
+block_lies false whole low attrs uses head own parts members inner less lie lies holds fits ends found = let same : [] ≡ inner = cc in plain_block whole low attrs uses parts.block inner same less lie fits
+block_lies true whole low attrs uses head own parts members inner less lie lies holds fits ends found =
+    let behind = before is_braces (drop head own) in
+    let place = head + behind in
+    let here : drop place own ≡ fits.braces ∷ fits.others = sym (drop-drop behind head own) ∙ fits.here in
+    let first : InOrder low (fits.braces ∷ fits.others) whole.end = subst (λ l. InOrder low l whole.end) fits.here (lies_drop behind low whole.end (drop head own) lies) in
     let beside : Beside MembersLie (fits.braces ∷ fits.others) (drop place members) = subst (λ l. Beside MembersLie l (drop place members)) here (beside_drop MembersLie place own members holds) in
-    let braced : BlockLies whole uses (block_of (Some (record { span = record { start = fits.braces.start; end = fits.braces.end }; shape = shape.Members })) inner) =
-    (mark_lies whole.start whole.end fits.braces fits.others first, ends fits, first_members_lie fits.braces fits.others (drop place members) inner beside found) in
-    subst (λ b. BlockLies whole uses (block_of b inner)) (sym fits.block) braced
+    let braced : BlockLies whole attrs uses (block_of (Some (record { span = record { start = fits.braces.start; end = fits.braces.end }; shape = shape.Members })) inner) = (
+      between_wider whole.start low whole.end whole.end (span_of fits.braces) less (omega arith) (mark_lies low whole.end fits.braces fits.others first),
+      attrs_wider whole.start whole.start low fits.braces.start attrs (omega arith) first.0 lie,
+      ends fits,
+      first_members_lie fits.braces fits.others (drop place members) inner beside found,
+    ) in
+    subst (λ b. BlockLies whole attrs uses (block_of b inner)) (sym fits.block) braced
 
 -- what is inside the members' braces is bare
 bare : (place : ℕ) (insides : List Inside) → (first_inside (drop place (take place insides ++ (nothing_inside ∷ drop 1 (drop place insides))))).uses ≡ []
@@ -133,7 +148,7 @@ abbrev pub ItemFits : ℕ → ℕ → List Mark → List Mark → ItemSeen → T
 ItemFits from to own next seen = ItemLies from seen to × (after_of seen ≡ after (end_of from own) next)
 
 assembled_fits : (from to : ℕ) (own next : List Mark) (kind : Kind) (parts : Parts) (found : Found) (inner : List ItemSeen) → 0 < length own → InOrder from own (end_of from own) → InOrder (end_of from own) next to
-    → PartsFit (span_from own).start (span_from own).end parts → FoundLies (span_from own).start (span_from own).end found → BlockLies (span_from own) found.uses (block_of parts.block inner) → ItemFits from to own next (assembled (span_from own) next kind parts found inner)
+    → PartsFit (span_from own).start (span_from own).end parts → FoundLies (span_from own).start (span_from own).end found → BlockLies (span_from own) found.attrs found.uses (block_of parts.block inner) → ItemFits from to own next (assembled (span_from own) next kind parts found inner)
 assembled_fits from to [] next kind parts found inner some lies behind named found_ block = absurd (omega (arith, some))
 assembled_fits from to (mark ∷ marks) next kind parts found inner some lies behind named found_ block =
     let end = end_of mark.end marks in
@@ -188,11 +203,16 @@ ends_by true list at head whole parts insides done closes some angled lies holds
     let place = head + before is_braces (drop head (drop at list)) in
     λ fits. uses_end_before list at head place parts (without (Some place) insides) whole done fits refl some angled lies (beside_without (Some place) (drop at list) insides holds) (bare place insides) closes
 
+-- its own attributes end with its head
+abbrev OwnEarly : List Mark → ℕ → Type 0
+OwnEarly list at =
+    (blocks : List ℕ) (insides : List Inside) (from to : ℕ) → InOrder from (drop at list) to → Beside InsideLies (drop at list) insides → AttrsLie from (found_from blocks (at + head_of (drop at list)) list at 0 (length list - at) insides).attrs (end_of from (take (head_of (drop at list)) (drop at list)))
+
 module _ (place : Place) (list : List Mark) (at : ℕ) (next : List Mark) (insides : List Inside) (members : List MembersRead) (from to : ℕ) where
-  pub item_fits : AnglesEnd list → InOrder from (drop at list) (end_of from (drop at list)) → InOrder (end_of from (drop at list)) next to → Beside InsideLies (drop at list) insides → Beside MembersLie (drop at list) members
+  pub item_fits : AnglesEnd list → OwnEarly list at → InOrder from (drop at list) (end_of from (drop at list)) → InOrder (end_of from (drop at list)) next to → Beside InsideLies (drop at list) insides → Beside MembersLie (drop at list) members
       → OkHolds (ItemFits from to (drop at list) next) (item_at place list at next insides members)
   unfolding item_at whole_item
-  item_fits angled lies behind inside_holds members_hold =
+  item_fits angled own_early lies behind inside_holds members_hold =
       let own = drop at list in
       let head = head_of own in
       let P : ItemSeen → Type 0 = ItemFits from to (drop at list) next in
@@ -202,6 +222,7 @@ module _ (place : Place) (list : List Mark) (at : ℕ) (next : List Mark) (insid
       let outside = without braces insides in
       let whole = span_from own in
       let closely = own_lies from (end_of from own) own some lies in
+      let low = end_of whole.start (take head own) in
       ok_then P (parts (kind_of starter) starter (drop head own) (drop head outside)) _ (λ read is.
       ok_then P (members_at braces members) _ (λ inner found.
       ok_then P (all_ends read.body starter list at) _ (λ ended ends_.
@@ -209,8 +230,9 @@ module _ (place : Place) (list : List Mark) (at : ℕ) (next : List Mark) (insid
       assembled_fits from to own next (kind_of starter) read (found_from read.blocks (at + head) list at 0 (length list - at) outside) inner some lies behind
       (ok_at (PartsFit whole.start whole.end) (parts (kind_of starter) starter (drop head own) (drop head outside)) read is (parts_lie whole.start whole.end (kind_of starter) starter (drop head own) (drop head outside) (ok_at (λ one. Between whole.start whole.end (span_of one)) (beginning place own) starter begun (starter_lies place whole.start whole.end own closely)) (lies_drop head whole.start whole.end own closely) (beside_drop InsideLies head own outside (beside_without braces own insides inside_holds))))
       (found_lies read.blocks (at + head) list whole.end at 0 (length list - at) outside whole.start (omega (arith, some, length-drop at list)) (let here : at ≡ at + 0 = omega arith in subst (λ n. InOrder whole.start (drop n list) whole.end) here closely) (beside_without braces own insides inside_holds))
-      (block_lies (has_members (kind_of starter)) whole (found_from read.blocks (at + head) list at 0 (length list - at) outside).uses head own read members inner closely members_hold
-      (ok_at (BlockFits (has_members (kind_of starter)) whole.start whole.end (drop head own)) (parts (kind_of starter) starter (drop head own) (drop head outside)) read is (parts_fit whole.start whole.end (kind_of starter) starter (drop head own) (drop head outside) (lies_drop head whole.start whole.end own closely)))
+      (block_lies (has_members (kind_of starter)) whole low (found_from read.blocks (at + head) list at 0 (length list - at) outside).attrs (found_from read.blocks (at + head) list at 0 (length list - at) outside).uses head own read members inner
+      (end_grows whole.start whole.end (take head own) (lies_take head whole.start whole.end own closely)) (own_early read.blocks outside whole.start whole.end closely (beside_without braces own insides inside_holds)) (lies_behind head whole.start whole.end own closely) members_hold
+      (ok_at (BlockFits (has_members (kind_of starter)) low whole.end (drop head own)) (parts (kind_of starter) starter (drop head own) (drop head outside)) read is (parts_fit low whole.end (kind_of starter) starter (drop head own) (drop head outside) (lies_behind head whole.start whole.end own closely)))
       (ends_by (has_members (kind_of starter)) list at head whole read insides shut.0 shut.1 some angled closely inside_holds)
       found)))))
 
@@ -218,12 +240,40 @@ not_zero : (n : ℕ) → (n == 0) ≡ false → 0 < n
 not_zero zero is = cc
 not_zero (suc n) is = omega arith
 
-module _ (place : Place) (marks : List Mark) (insides : List Inside) (members : List MembersRead) (inside_holds : Beside InsideLies marks insides) (members_hold : Beside MembersLie marks members) (angled : AnglesEnd marks) (to : ℕ) where
+head_short : (marks : List Mark) → head_of marks ≤ length marks
+head_short [] = omega arith
+head_short (mark ∷ marks) = omega arith
+
+head_cut : (n : ℕ) (marks : List Mark) → head_of marks ≤ n → head_of (take n marks) ≡ head_of marks
+head_cut zero marks less = omega (arith, less)
+head_cut (suc n) [] less = refl
+head_cut (suc n) (mark ∷ marks) less = omega (arith, less, length-take n marks)
+
+head_known : (marks : List Mark) → HeadsKnown marks → 0 < head_of marks → head_from 0 0 marks ≡ head_of marks
+unfolding head
+head_known [] known some = absurd (omega (arith, some))
+head_known (mark ∷ marks) known some = omega (arith, known.0, head_within (mark ∷ marks))
+
+own_early : (marks : List Mark) (at : ℕ) → NoModifiers marks → HeadsKnown marks → 0 < head_of (drop at marks) → OwnEarly (take (at + count_of (drop at marks)) marks) at
+own_early marks at plain known some blocks insides from to lies holds =
+    let rest = drop at marks in
+    let count = count_of rest in
+    let end = at + count in
+    let list : List Mark = take end marks in
+    let h = head_of rest in
+    let own : drop at list ≡ take count rest = drop-take at count marks in
+    let same : head_of (drop at list) ≡ h = ap head_of own ∙ head_cut count rest (omega arith) in
+    let long : at + h ≤ length list = omega (arith, some, head_short (drop at list), same, length-drop at list) in
+    let ends : AttrsLie from (found_from blocks (at + h) list at 0 (length list - at) insides).attrs (end_of from (take h (drop at list))) =
+    early marks at h end some (omega arith) plain blocks insides from to long (head_known rest (known_drop at marks known) some) lies holds in
+    subst (λ n. AttrsLie from (found_from blocks (at + n) list at 0 (length list - at) insides).attrs (end_of from (take n (drop at list)))) (sym same) ends
+
+module _ (place : Place) (marks : List Mark) (insides : List Inside) (members : List MembersRead) (inside_holds : Beside InsideLies marks insides) (members_hold : Beside MembersLie marks members) (angled : AnglesEnd marks) (plain : NoModifiers marks) (known : HeadsKnown marks) (to : ℕ) where
   abbrev OneFits : ℕ → List Mark → ItemSeen → Type 0
   OneFits from rest seen = ItemFits from to (take (count_of rest) rest) (drop (count_of rest) rest) seen
 
-  one_fits : (from at : ℕ) → InOrder from (drop at marks) to → OkHolds (OneFits from (drop at marks)) (one_item place marks insides members at)
-  one_fits from at lies =
+  one_fits : (from at : ℕ) → 0 < head_of (drop at marks) → InOrder from (drop at marks) to → OkHolds (OneFits from (drop at marks)) (one_item place marks insides members at)
+  one_fits from at some lies =
       let rest = drop at marks in
       let count = count_of rest in
       let list = take (at + count) marks in
@@ -233,7 +283,7 @@ module _ (place : Place) (marks : List Mark) (insides : List Inside) (members : 
       let own_members : Beside MembersLie (drop at list) (take count (drop at members)) = subst (λ l. Beside MembersLie l (take count (drop at members))) (sym own) (beside_take MembersLie count rest (drop at members) (beside_drop MembersLie at marks members members_hold)) in
       let closely : InOrder from (drop at list) (end_of from (drop at list)) = subst (λ l. InOrder from l (end_of from l)) (sym own) (lies_closely from to (take count rest) (lies_take count from to rest lies)) in
       let behind : InOrder (end_of from (drop at list)) (drop (at + count) marks) to = subst (λ l. InOrder (end_of from (drop at list)) l to) (sym next) (subst (λ l. InOrder (end_of from l) (drop count rest) to) (sym own) (lies_behind count from to rest lies)) in
-      let fits = item_fits place list at (drop (at + count) marks) (take count (drop at insides)) (take count (drop at members)) from to (angles_take (at + count) marks angled) closely behind own_insides own_members in
+      let fits = item_fits place list at (drop (at + count) marks) (take count (drop at insides)) (take count (drop at members)) from to (angles_take (at + count) marks angled) (own_early marks at plain known some) closely behind own_insides own_members in
       subst (λ l. OkHolds (ItemFits from to l (drop count rest)) (one_item place marks insides members at)) own (subst (λ l. OkHolds (ItemFits from to (drop at list) l) (one_item place marks insides members at)) next fits)
 
   abbrev AllLie : ℕ → List ItemSeen → Type 0
@@ -263,7 +313,7 @@ module _ (place : Place) (marks : List Mark) (insides : List Inside) (members : 
       let first : InOrder from (drop at marks) to = subst (λ l. InOrder from l to) (sym here.here) (first_passed from at false here.mark here.marks (ap (first_is is_semicolon) (sym here.here) ∙ is) here.here lies) in
       ok_if (AllLie from) (head_of (drop at marks) == 0) _ _ (λ no_head. tt) (λ some_head.
       ok_then (AllLie from) (one_item place marks insides members at) _ (λ one read.
-      let fits : OneFits from (drop at marks) one = ok_at (OneFits from (drop at marks)) (one_item place marks insides members at) one read (one_fits from at first) in
+      let fits : OneFits from (drop at marks) one = ok_at (OneFits from (drop at marks)) (one_item place marks insides members at) one read (one_fits from at (not_zero (head_of (drop at marks)) some_head) first) in
       let end = end_of from (take count (drop at marks)) in
       let passed = lies_past end to (drop count (drop at marks)) (lies_behind count from to (drop at marks) first) in
       let there : at + count ≡ suc at + (count - 1) = omega (arith, not_zero (head_of (drop at marks)) some_head) in

@@ -29,6 +29,7 @@ use Rattle.decl_parser.proofs.Ordered.{InOrder, Beside, beside_level, beside_mar
 use Rattle.decl_parser.proofs.FoundInOrder.{InsideLies, FoundLies, found_in_lies}
 use Rattle.decl_parser.proofs.PartsInOrder.{names_inside_lie}
 use Rattle.decl_parser.proofs.FragmentsInOrder.{Spans, spans_from, all_spans, attributes_lie, accessors_lie}
+use Rattle.decl_parser.proofs.AttributesBefore.{level_modifiers, level_heads}
 use Rattle.decl_parser.proofs.UsesBefore.{level_angles}
 use Rattle.decl_parser.proofs.ItemsInOrder.{MembersLie, items_lie}
 
@@ -63,7 +64,7 @@ mutual
   members_lie : (text : List ℕ) (from : ℕ) (tree : Tree) → TreeInOrder text from tree → MembersLie (tree_start tree) (members_of text tree) (tree_end tree)
   members_lie text from (leaf token) lies = tt
   members_lie text from (nest left inner right) lies =
-      items_lie place.Members (level text inner) (insides text inner) (members text inner) (level_insides text left.end right.start inner lies.2) (beside_level MembersLie text inner (members text inner) (all_members_lie text left.end right.start inner lies.2)) (level_angles text inner)
+      items_lie place.Members (level text inner) (insides text inner) (members text inner) (level_insides text left.end right.start inner lies.2) (beside_level MembersLie text inner (members text inner) (all_members_lie text left.end right.start inner lies.2)) (level_angles text inner) (level_modifiers text inner) (level_heads text inner)
       (right.end - 1) (left.start + 1) (inner_in_order text left right inner from lies)
 
   all_members_lie : (text : List ℕ) (from to : ℕ) (forest : Forest) → ForestInOrder text from forest to → Beside MembersLie (own_marks text forest) (members text forest)
@@ -74,7 +75,7 @@ mutual
 list_lies : (of_place : Place) (text : List ℕ) (from to : ℕ) (forest : Forest) → ForestInOrder text from forest to → OkHolds (λ items. ItemsLie from (items_from items) to) (items_of_list of_place text forest)
 unfolding items_of_list
 list_lies of_place text from to forest lies =
-    items_lie of_place (level text forest) (insides text forest) (members text forest) (level_insides text from to forest lies) (beside_level MembersLie text forest (members text forest) (all_members_lie text from to forest lies)) (level_angles text forest) to from (level_in_order text from to forest lies)
+    items_lie of_place (level text forest) (insides text forest) (members text forest) (level_insides text from to forest lies) (beside_level MembersLie text forest (members text forest) (all_members_lie text from to forest lies)) (level_angles text forest) (level_modifiers text forest) (level_heads text forest) to from (level_in_order text from to forest lies)
 
 found_in_list : (text : List ℕ) (from to : ℕ) (forest : Forest) → ForestInOrder text from forest to → FoundLies from to (found_in (level text forest) (insides text forest))
 found_in_list text from to forest lies = found_in_lies from to (level text forest) (insides text forest) (level_in_order text from to forest lies) (level_insides text from to forest lies)

@@ -96,14 +96,15 @@ abbrev pub StandsBehind : BlockShape → ℕ → List MacroUse → ℕ → Type 
 StandsBehind Members from uses to = UsesLie from uses to
 StandsBehind _ from uses to = Unit {0}
 
--- declarations lie between the two places, each behind the one before; the block of each lies in it, and its members between its braces
+-- declarations lie between the two places, each behind the one before; the block of each lies in it, behind its own attributes, and its members between the braces
 abbrev mutual
   pub ItemLies : ℕ → ItemSeen → ℕ → Type 0
-  ItemLies from (item head braces) to = HeadLies from to head × BlockLies head.span head.uses braces
+  ItemLies from (item head braces) to = HeadLies from to head × BlockLies head.span head.attrs head.uses braces
 
-  pub BlockLies : Span → List MacroUse → BlockSeen → Type 0
-  BlockLies whole uses no_block = Unit {0}
-  BlockLies whole uses (block span shape members) = Between whole.start whole.end span × StandsBehind shape whole.start uses span.start × ItemsLie (span.start + 1) members (span.end - 1)
+  pub BlockLies : Span → List Attr → List MacroUse → BlockSeen → Type 0
+  BlockLies whole attrs uses no_block = Unit {0}
+  BlockLies whole attrs uses (block span shape members) =
+      Between whole.start whole.end span × AttrsLie whole.start attrs span.start × StandsBehind shape whole.start uses span.start × ItemsLie (span.start + 1) members (span.end - 1)
 
   pub ItemsLie : ℕ → ItemsSeen → ℕ → Type 0
   ItemsLie from none to = Unit {0}

@@ -23,7 +23,8 @@ pub fn accepted_texts_tile()
 {}
 
 /// All that an outline holds lies in its text in order: declarations, their blocks and members, and the names,
-/// bindings, types, attributes and macro uses of each.
+/// bindings, types, attributes and macro uses of each. A declaration's own attributes and its macro uses are
+/// apart; the attributes end before its block, and the uses before its members.
 pub fn spans_in_order()
     ensures { SpansInOrder }
 {}
