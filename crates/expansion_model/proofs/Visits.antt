@@ -1,0 +1,79 @@
+-- The sites of a declaration, by its parts.
+use Rattle.std.proofs.Common.{◌≡◌, ℕ, ◌+◌, Option, Some, None, List, [], ◌∷◌, ◌++◌, map, not, Bool, true, false, option_map, append_assoc, append-nil, refl, sym, ap, ap₂, ◌∙◌}
+use Rattle.swift_base.specs.declared.plugins.Plugin.{Plugin}
+use Rattle.swift_tree.specs.declared.item.Block.{Block, out-Block}
+use Rattle.swift_tree.specs.declared.item.BlockShape.{BlockShape}
+use Rattle.swift_tree.specs.declared.item.BlockShape.TheVariants as shape
+use Rattle.swift_tree.specs.declared.item.Item.{Item, out-Item}
+use Rattle.swift_tree.specs.Outlines.{BlockSeen, block, block_from, block_of, item_of, items_of}
+use Rattle.macro_decls.specs.declared.table.MacroDecl.{MacroDecl}
+use Rattle.expansion_model.specs.Attributes.{Carrier, carrier, head_of, shape_in}
+use Rattle.expansion_model.specs.Sites.{carrier_of, shape_of, members_in, members_of, sites_before, sites_behind, item_sites, block_sites, items_sites}
+use Rattle.expansion_model.specs.declared.site.Site.{Site}
+use Rattle.expansion_model.proofs.Outlines.{item_of-is, block_of-is}
+
+abbrev pub inner_of : Item → BlockSeen
+inner_of i = block_from (option_map block_of (out-Item i).block)
+
+shape_is : (o : Option Block) → shape_of (block_from (option_map block_of o)) ≡ option_map shape_in o
+shape_is None = refl
+shape_is (Some b) = ap shape_of (block_of-is b)
+
+carrier_is : (i : Item) → carrier_of (head_of i) (inner_of i) ≡ carrier i
+carrier_is i = ap (λ (s : Option BlockShape). record { head = head_of i; shape = s }) (shape_is (out-Item i).block)
+
+pub members_is : (i : Item) → members_of (item_of i) ≡ members_in (inner_of i)
+members_is i = ap members_of (item_of-is i)
+
+pub members_is-none : (i : Item) → (out-Item i).block ≡ None → members_of (item_of i) ≡ 0
+members_is-none i lacks = members_is i ∙ ap (λ o. members_in (block_from (option_map block_of o))) lacks
+
+pub members_is-some : (i : Item) (b : Block) → (out-Item i).block ≡ Some b → members_of (item_of i) ≡ members_in (block_of b)
+members_is-some i b some = members_is i ∙ ap (λ o. members_in (block_from (option_map block_of o))) some
+
+module _ (text : List ℕ) (macros : List MacroDecl) (plugins : List Plugin) where
+  item_is : (i : Item) → item_sites text macros plugins (item_of i)
+      ≡ sites_before text macros plugins (carrier i) (members_of (item_of i)) ++ (block_sites text macros plugins (inner_of i) ++ sites_behind text macros plugins (carrier i))
+  item_is i =
+      let P : Carrier → ℕ → List Site = λ c n. sites_before text macros plugins c n ++ (block_sites text macros plugins (inner_of i) ++ sites_behind text macros plugins c) in
+      ap (item_sites text macros plugins) (item_of-is i) ∙ ap₂ P (carrier_is i) (sym (members_is i))
+
+  inner_none : (i : Item) → (out-Item i).block ≡ None → block_sites text macros plugins (inner_of i) ≡ []
+  inner_none i lacks = ap (λ o. block_sites text macros plugins (block_from (option_map block_of o))) lacks
+
+  inner_some : (i : Item) (b : Block) → (out-Item i).block ≡ Some b → block_sites text macros plugins (inner_of i) ≡ block_sites text macros plugins (block_of b)
+  inner_some i b some = ap (λ o. block_sites text macros plugins (block_from (option_map block_of o))) some
+
+  -- what is put for a declaration, one part behind the other
+  put_by : (before first inner last : List Site) (i : Item) → first ≡ before ++ sites_before text macros plugins (carrier i) (members_of (item_of i))
+      → inner ≡ first ++ block_sites text macros plugins (inner_of i) → last ≡ inner ++ sites_behind text macros plugins (carrier i) → last ≡ before ++ item_sites text macros plugins (item_of i)
+  put_by before first inner last i begins holds ends =
+      let fore = sites_before text macros plugins (carrier i) (members_of (item_of i)) in
+      let middle = block_sites text macros plugins (inner_of i) in
+      let hind = sites_behind text macros plugins (carrier i) in
+      ends ∙ ap (λ (l : List Site). l ++ hind) (holds ∙ ap (λ (l : List Site). l ++ middle) begins)
+      ∙ append_assoc (before ++ fore) middle hind ∙ append_assoc before fore (middle ++ hind) ∙ ap (λ (l : List Site). before ++ l) (sym (item_is i))
+
+  pub put-none : (before first last : List Site) (i : Item) → first ≡ before ++ sites_before text macros plugins (carrier i) (members_of (item_of i))
+      → (out-Item i).block ≡ None → last ≡ first ++ sites_behind text macros plugins (carrier i) → last ≡ before ++ item_sites text macros plugins (item_of i)
+  put-none before first last i begins lacks ends =
+      put_by before first (first ++ []) last i begins (ap (λ (l : List Site). first ++ l) (sym (inner_none i lacks))) (ends ∙ ap (λ (l : List Site). l ++ sites_behind text macros plugins (carrier i)) (sym (append-nil first)))
+
+  pub put-some : (before first inner last : List Site) (i : Item) (b : Block) → first ≡ before ++ sites_before text macros plugins (carrier i) (members_of (item_of i))
+      → (out-Item i).block ≡ Some b → inner ≡ first ++ block_sites text macros plugins (block_of b)
+      → last ≡ inner ++ sites_behind text macros plugins (carrier i) → last ≡ before ++ item_sites text macros plugins (item_of i)
+  put-some before first inner last i b begins some holds ends =
+      put_by before first inner last i begins (holds ∙ ap (λ (l : List Site). first ++ l) (sym (inner_some i b some))) ends
+
+  -- only a block of members has members
+  pub block-members : (b : Block) → (out-Block b).shape ≡ shape.Members → block_sites text macros plugins (block_of b) ≡ items_sites text macros plugins (items_of (out-Block b).members.items)
+  block-members b is =
+      ap (block_sites text macros plugins) (block_of-is b) ∙ ap (λ s. block_sites text macros plugins (block (out-Block b).span s (items_of (out-Block b).members.items))) is
+
+  pub block-body : (b : Block) → (out-Block b).shape ≡ shape.Body → block_sites text macros plugins (block_of b) ≡ []
+  block-body b is =
+      ap (block_sites text macros plugins) (block_of-is b) ∙ ap (λ s. block_sites text macros plugins (block (out-Block b).span s (items_of (out-Block b).members.items))) is
+
+  pub block-accessors : (b : Block) → (out-Block b).shape ≡ shape.Accessors → block_sites text macros plugins (block_of b) ≡ []
+  block-accessors b is =
+      ap (block_sites text macros plugins) (block_of-is b) ∙ ap (λ s. block_sites text macros plugins (block (out-Block b).span s (items_of (out-Block b).members.items))) is

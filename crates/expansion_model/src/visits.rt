@@ -1,0 +1,250 @@
+// The sites of a source, in the order of their visits.
+ghost use Rattle.std.specs.Prelude.{◌≡◌, ◌++◌, ◌+◌, IfOk};
+ghost use Rattle.std.specs.List.{All, flat_map};
+ghost use Rattle.swift_tree.specs.Outlines.{block_of, item_of, items_of, outline_of};
+ghost use Rattle.macro_decls.specs.Macros.{IsDeclReadable};
+ghost use Rattle.expansion_model.specs.Attributes.{carrier};
+ghost use Rattle.expansion_model.specs.Readable.{IsSiteReadable, IsSource};
+ghost use Rattle.expansion_model.specs.Sites.{is_use, role_at, local_sites, before_use, own_sites, one_if, is_member, count_members, members_in, sites_before, sites_behind, item_sites, block_sites, items_sites, sites_of, members_of};
+
+use crate::attributes::{put_attributes, put_role};
+use crate::macros::macro_of;
+use crate::site::{Site, SiteKind};
+use crate::slices::{add, behind, front, text_at};
+use crate::uses::{fault_at, use_site};
+use macro_decls::MacroTable;
+use std::alloc::{AllocError, Global};
+use swift_base::{Plugin, Plugins};
+use swift_tree::{Attr, Block, BlockShape, Item, Kind, MacroUse, Outline};
+use unique_names::Role;
+
+fn is_use(kind: Kind) -> bool
+    ensures { result ≡ is_use kind }
+{
+    matches!(kind, Kind::UseItem)
+}
+
+fn role_at(kind: Kind) -> Role
+    ensures { result ≡ role_at kind }
+{
+    match kind {
+        Kind::UseItem => Role::Declaration,
+        _ => Role::Expression,
+    }
+}
+
+fn put_local(
+    alloc: Global,
+    text: &[u8],
+    macros: &MacroTable,
+    attribute: &Attr,
+    sites: &mut Vec<Site>,
+) -> Result<(), AllocError>
+    ensures { IfOk result (λ _. sites.new.items ≡ sites.old.items ++ local_sites text.now macros.now attribute.now) }
+{
+    if macro_of(macros, text, attribute).is_none() {
+        return Ok(());
+    }
+    let name = text_at(text, attribute.name);
+    let site = fault_at(alloc, attribute.span.start, SiteKind::LocalAttached, name)?;
+    add(sites, site)
+}
+
+fn put_locals(
+    alloc: Global,
+    text: &[u8],
+    macros: &MacroTable,
+    locals: &[Attr],
+    sites: &mut Vec<Site>,
+) -> Result<(), AllocError>
+    ensures { IfOk result (λ _. sites.new.items ≡ sites.old.items ++ flat_map (local_sites text.now macros.now) locals.now) }
+{
+    'locals: for attribute in locals {
+        put_local(alloc, text, macros, attribute, sites)?;
+    }
+    Ok(())
+}
+
+/// How many of the local attributes begin before the use.
+fn before_use(macro_use: MacroUse, locals: &[Attr]) -> usize
+    ensures { result ≡ before_use macro_use locals.now }
+{
+    locals
+        .iter()
+        .position(|attribute| attribute.span.start >= macro_use.span.start)
+        .unwrap_or(locals.len())
+}
+
+/// Uses and local attributes by their offsets.
+fn put_own(
+    alloc: Global,
+    text: &[u8],
+    macros: &MacroTable,
+    plugins: &[Plugin],
+    wanted: Role,
+    uses: &[MacroUse],
+    locals: &[Attr],
+    sites: &mut Vec<Site>,
+) -> Result<(), AllocError>
+    ensures { IfOk result (λ _. sites.new.items
+        ≡ sites.old.items ++ own_sites text.now macros.now plugins.now wanted uses.now locals.now) }
+{
+    let mut rest = locals;
+    'uses: for macro_use in uses {
+        let count = before_use(*macro_use, rest);
+        put_locals(alloc, text, macros, front(rest, count), sites)?;
+        let site = use_site(alloc, text, macros, plugins, wanted, *macro_use)?;
+        add(sites, site)?;
+        rest = behind(rest, count);
+    }
+    put_locals(alloc, text, macros, rest, sites)
+}
+
+/// The declarations in a row that are no macro uses.
+fn count_members(items: &[Item]) -> usize
+    ensures { result ≡ count_members (items_of items.now) }
+{
+    items.iter().filter(|item| !is_use(item.kind)).count()
+}
+
+fn members_in(block: &Block) -> usize
+    ensures { result ≡ members_in (block_of block.now) }
+{
+    match block.shape {
+        BlockShape::Members => count_members(&block.members),
+        BlockShape::Body | BlockShape::Accessors => 0,
+    }
+}
+
+fn members_of(item: &Item) -> usize
+    ensures { result ≡ members_of (item_of item.now) }
+{
+    match &item.block {
+        Some(block) => members_in(block),
+        None => 0,
+    }
+}
+
+/// What is visited of a declaration before its members.
+#[tactic(auto, unfolding(crate::specs::Sites::sites_before))]
+fn put_before(
+    alloc: Global,
+    text: &[u8],
+    macros: &MacroTable,
+    plugins: &[Plugin],
+    item: &Item,
+    sites: &mut Vec<Site>,
+) -> Result<(), AllocError>
+    ensures { IfOk result (λ _. sites.new.items
+        ≡ sites.old.items ++ sites_before text.now macros.now plugins.now (carrier item.now) (members_of (item_of item.now))) }
+{
+    let members = members_of(item);
+    put_attributes(alloc, text, macros, plugins, item, sites)?;
+    put_role(text, macros, plugins, item, Role::MemberAttribute, members, sites)?;
+    put_role(text, macros, plugins, item, Role::Accessor, 1, sites)?;
+    let (uses, locals) = (item.uses.items(), item.locals.items());
+    put_own(alloc, text, macros, plugins, role_at(item.kind), uses, locals, sites)
+}
+
+/// What is visited of it behind them.
+#[tactic(auto, unfolding(crate::specs::Sites::sites_behind))]
+fn put_behind(
+    text: &[u8],
+    macros: &MacroTable,
+    plugins: &[Plugin],
+    item: &Item,
+    sites: &mut Vec<Site>,
+) -> Result<(), AllocError>
+    ensures { IfOk result (λ _. sites.new.items
+        ≡ sites.old.items ++ sites_behind text.now macros.now plugins.now (carrier item.now)) }
+{
+    put_role(text, macros, plugins, item, Role::Member, 1, sites)?;
+    put_role(text, macros, plugins, item, Role::Peer, 1, sites)?;
+    put_role(text, macros, plugins, item, Role::Extension, 1, sites)
+}
+
+#[cycle(visits)]
+fn put_item(
+    alloc: Global,
+    text: &[u8],
+    macros: &MacroTable,
+    plugins: &[Plugin],
+    item: &Item,
+    sites: &mut Vec<Site>,
+) -> Result<(), AllocError>
+    ensures { IfOk result (λ _. sites.new.items
+        ≡ sites.old.items ++ item_sites text.now macros.now plugins.now (item_of item.now)) }
+{
+    put_before(alloc, text, macros, plugins, item, sites)?;
+    if let Some(block) = &item.block {
+        put_block(alloc, text, macros, plugins, block, sites)?;
+    }
+    put_behind(text, macros, plugins, item, sites)
+}
+
+/// Only a block of members has members.
+#[cycle(visits)]
+fn put_block(
+    alloc: Global,
+    text: &[u8],
+    macros: &MacroTable,
+    plugins: &[Plugin],
+    block: &Block,
+    sites: &mut Vec<Site>,
+) -> Result<(), AllocError>
+    ensures { IfOk result (λ _. sites.new.items
+        ≡ sites.old.items ++ block_sites text.now macros.now plugins.now (block_of block.now)) }
+{
+    match block.shape {
+        BlockShape::Members => put_items(alloc, text, macros, plugins, &block.members, sites),
+        BlockShape::Body | BlockShape::Accessors => Ok(()),
+    }
+}
+
+#[cycle(visits)]
+fn put_items(
+    alloc: Global,
+    text: &[u8],
+    macros: &MacroTable,
+    plugins: &[Plugin],
+    items: &[Item],
+    sites: &mut Vec<Site>,
+) -> Result<(), AllocError>
+    ensures { IfOk result (λ _. sites.new.items
+        ≡ sites.old.items ++ items_sites text.now macros.now plugins.now (items_of items.now)) }
+{
+    'items: for item in items {
+        put_item(alloc, text, macros, plugins, item, sites)?;
+    }
+    Ok(())
+}
+
+#[tactic(auto, unfolding(crate::specs::Sites::sites_of))]
+fn visited(
+    alloc: Global,
+    source: &Outline,
+    macros: &MacroTable,
+    plugins: &Plugins,
+) -> Result<Vec<Site>, AllocError>
+    ensures { IfOk result (λ sites. sites.items ≡ sites_of (outline_of source.now) macros.now plugins.now) }
+{
+    let mut sites = Vec::new(alloc);
+    let text = source.text.bytes();
+    put_items(alloc, text, macros, plugins.list(), &source.items, &mut sites)?;
+    Ok(sites)
+}
+
+/// The sites of a source in the order of their visits; the texts of what is asked there are UTF-8, where the source is
+/// an accepted file and the module and the type of each macro are.
+pub fn sites(
+    alloc: Global,
+    source: &Outline,
+    macros: &MacroTable,
+    plugins: &Plugins,
+) -> Result<Vec<Site>, AllocError>
+    ensures sites { IfOk result (λ sites. sites.items ≡ sites_of (outline_of source.now) macros.now plugins.now) }
+    ensures readable { IsSource (outline_of source.now) → All IsDeclReadable macros.now
+        → IfOk result (λ sites. All (IsSiteReadable source.now.text) sites.items) }
+{
+    visited(alloc, source, macros, plugins)
+}
