@@ -26,9 +26,10 @@ rule_test_decides (Some a) name (Suffixed suffix) = bytes_eq-Decides name (a ++ 
 rule_test_decides attached name Arbitrary = (λ _. tt, λ _. refl)
 
 any_decides : {A : Type 0} (p : A → Bool) (P : A → Type 0) → ((x : A) → Decides (p x) (P x)) → (xs : List A) → Decides (list_any p xs) (Any P xs)
-any_decides p P each xs =
-    (λ e. let a = Any-from_list_any p xs e in (a.0, a.1, a.2, a.3, (each a.1).0 a.4),
-     λ a. list_any-from_Any p xs (a.0, a.1, a.2, a.3, (each a.1).1 a.4))
+any_decides p P each xs = (
+  λ e. let a = Any-from_list_any p xs e in (a.0, a.1, a.2, a.3, (each a.1).0 a.4),
+  λ a. list_any-from_Any p xs (a.0, a.1, a.2, a.3, (each a.1).1 a.4),
+)
 
 pub list_test_decides : ListTestDecides
 list_test_decides rules attached name = any_decides (is_covered_by attached name) (IsCoveredBy attached name) (rule_test_decides attached name) rules
