@@ -1,14 +1,13 @@
 -- Each test of covered names decides its relation.
-use Rattle.std.proofs.Common.{◌≡◌, ◌∙◌, ◌<◌, ◌⊎◌, ℕ, Bool, true, false, List, ◌++◌, length, take, drop, Option, Some, None, Decides, refl, ap, sym, nat_eq, nat_lt}
-use Rattle.std.specs.List.{Any, list_any, starts_with}
+use Rattle.std.proofs.Common.{ℕ, Bool, false, List, ◌++◌, length, take, drop, Option, Some, None, Decides, refl, sym}
+use Rattle.std.specs.List.{Any, list_any}
 use Rattle.std.proofs.lemmas.List.Folds.{Any-from_list_any, list_any-from_Any}
 use Rattle.std.proofs.lemmas.Bool.Decides.{Decides-and, Decides-or, Decides-ltb, Decides-like}
 use Rattle.std.proofs.lemmas.Slice.Eq.{bytes_eq-Decides}
-use Rattle.unique_names.specs.declared.step.KeyStep.{KeyStep}
 use Rattle.unique_names.specs.Names.{discriminator_of}
 use Rattle.role_names.specs.declared.rule.NameRule.{NameRule}
 use Rattle.role_names.specs.declared.rule.NameRule.TheVariants.{Named, Overloaded, Prefixed, Suffixed, Arbitrary}
-use Rattle.role_names.specs.Covered.{IsCoveredBy, IsUniqueName}
+use Rattle.role_names.specs.Covered.{IsCoveredBy}
 use Rattle.role_names.specs.Decided.{is_covered_by, ListIsDecided, UniqueIsDecided, IsDecided}
 use Rattle.role_names.proofs.Joined.{joined, front_of}
 

@@ -1,5 +1,5 @@
 -- The names of declarations as the code reads them.
-use Rattle.std.proofs.Common.{◌≡◌, ◌∙◌, Option, Some, None, List, [], ◌∷◌, ◌++◌, map, option_map, append_assoc, refl, sym, ap, ◌≢◌}
+use Rattle.std.proofs.Common.{◌≡◌, ◌∙◌, Option, Some, None, List, [], option_map, refl, ap, ◌≢◌}
 use Rattle.swift_base.specs.declared.place.Span.{Span}
 use Rattle.swift_tree.specs.declared.item.Block.TheOpen.{Item-F}
 use Rattle.swift_tree.specs.declared.item.Block.{Block, out-Block, fold_out-Block}

@@ -7,8 +7,8 @@ use std::alloc::{AllocError, Global};
 use swift_base::Span;
 use swift_tree::{Block, BlockShape, Item, Kind};
 
-#[tactic(auto, using(crate::proofs::Outlines::names_of_extension, crate::proofs::Outlines::names_of_its_own))]
 /// The places of the names that a declaration declares, in order; of an extension those of its members.
+#[tactic(auto, using(crate::proofs::Outlines::names_of_extension, crate::proofs::Outlines::names_of_its_own))]
 pub fn declared_names(alloc: Global, item: &Item) -> Result<Vec<Span>, AllocError>
     ensures { IfOk result (λ names. names.items ≡ declared_names (item_of item.now)) }
 {

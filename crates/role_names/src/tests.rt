@@ -2,7 +2,6 @@
 
 use crate::{NameList, NameRule, covers, declared_names};
 use std::alloc::{AllocError, Global};
-use std::process::Abort;
 use std::test::Fail;
 use swift_base::{Listed, Span, Text};
 use swift_tree::{Block, BlockShape, Item, Kind};
@@ -101,10 +100,7 @@ fn any_rule_of_a_list_covers(rt: HostRuntime) -> Result<(), Fail> {
 }
 
 fn span(start: u32) -> Span {
-    Span {
-        start,
-        end: start + 1,
-    }
+    Span { start, end: start }
 }
 
 fn item(
@@ -129,49 +125,35 @@ fn item(
 }
 
 /// A block of a variable with two names, and of a type with one name and a member.
-fn block(alloc: Global, shape: BlockShape) -> Result<Block, AllocError> {
-    let mut inner = Vec::new(alloc);
-    inner.push(item(alloc, Kind::Func, &[span(70)], None)?)?;
+fn block(alloc: Global) -> Result<Block, AllocError> {
     let inner = Block {
         span: span(60),
         shape: BlockShape::Members,
-        members: inner,
+        members: vec![in alloc; item(alloc, Kind::Func, &[span(70)], None)?]?,
     };
-    let mut members = Vec::new(alloc);
-    members.push(item(alloc, Kind::Var, &[span(30), span(40)], None)?)?;
-    members.push(item(alloc, Kind::Struct, &[span(50)], Some(inner))?)?;
+    let variable = item(alloc, Kind::Var, &[span(30), span(40)], None)?;
+    let structure = item(alloc, Kind::Struct, &[span(50)], Some(inner))?;
     Ok(Block {
         span: span(20),
-        shape,
-        members,
+        shape: BlockShape::Members,
+        members: vec![in alloc; variable, structure]?,
     })
 }
 
 #[test]
 fn names_of_a_case(rt: HostRuntime) -> Result<(), Fail> {
     let alloc = rt.alloc();
-    let names = [Span { start: 5, end: 6 }, Span { start: 8, end: 9 }];
-    let case = item(alloc, Kind::Case, &names, None)?;
-    assert_eq!(rt; declared_names(alloc, &case)?.as_slice(), names.as_slice());
+    let case = item(alloc, Kind::Case, &[span(5), span(8)], None)?;
+    let names = declared_names(alloc, &case)?;
+    assert_eq!(rt; names.as_slice(), [span(5), span(8)].as_slice());
     Ok(())
 }
 
 #[test]
-fn names_of_blocks(rt: HostRuntime) -> Result<(), Fail> {
+fn names_of_an_extension(rt: HostRuntime) -> Result<(), Fail> {
     let alloc = rt.alloc();
-    let members = block(alloc, BlockShape::Members)?;
-    let extension = item(alloc, Kind::Extension, &[], Some(members))?;
-    assert_eq!(rt;
-        declared_names(alloc, &extension)?.as_slice(),
-        [span(30), span(40), span(50)].as_slice()
-    );
-    let members = block(alloc, BlockShape::Members)?;
-    let class = item(alloc, Kind::Class, &[span(7)], Some(members))?;
-    assert_eq!(rt;
-        declared_names(alloc, &class)?.as_slice(),
-        [span(7)].as_slice()
-    );
-    let import = item(alloc, Kind::Import, &[], None)?;
-    assert!(rt; declared_names(alloc, &import)?.is_empty());
+    let extension = item(alloc, Kind::Extension, &[], Some(block(alloc)?))?;
+    let names = declared_names(alloc, &extension)?;
+    assert_eq!(rt; names.as_slice(), [span(30), span(40), span(50)].as_slice());
     Ok(())
 }

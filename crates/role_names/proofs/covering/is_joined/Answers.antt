@@ -1,4 +1,4 @@
-use Rattle.std.proofs.Common.{◌≡◌, ◌∙◌, sym, take, drop, length}
+use Rattle.std.proofs.Common.{◌∙◌, sym, take, length}
 use Rattle.std.proofs.lemmas.Slice.Eq.{bytes_eq-Decides}
 use Rattle.role_names.proofs.Joined.{joined, front_of, back_of}
 use Rattle.role_names.proofs.covering.is_joined.Goals as goal
