@@ -1,8 +1,9 @@
 pub mod Places
 pub mod Outlines
-pub mod Visits
+pub mod Parts
 pub mod Boundaries
 pub mod MarkBoundaries
 pub mod Heads
 pub mod UsesReadable
 pub mod Accepted
+pub mod LastParts

@@ -1,6 +1,7 @@
 -- What stands at an attribute of a declaration. After SE-0389 and SE-0402.
-use Rattle.std.specs.Prelude.{ℕ, ◌==◌, ◌&&◌, not, Bool, true, false, if◌then◌else◌, Option, Some, None, option_or, option_map, List, [], ◌∷◌, length, replicate, map}
+use Rattle.std.specs.Prelude.{ℕ, ◌==◌, ◌&&◌, not, Bool, true, false, if◌then◌else◌, Option, Some, None, option_map, List, [], ◌∷◌, length, replicate, map}
 use Rattle.std.specs.List.{flat_map, list_any}
+use Rattle.std.specs.Option.{option_or}
 use Rattle.swift_base.specs.declared.plugins.Plugin.{Plugin}
 use Rattle.swift_tree.specs.declared.item.Attr.{Attr}
 use Rattle.swift_tree.specs.declared.item.Binding.{Binding}

@@ -1,6 +1,6 @@
 -- The sites of a source, in the order of their visits: this project's own, after SE-0382, SE-0389, SE-0397 and SE-0402.
-use Rattle.std.specs.Prelude.{ℕ, ◌+◌, ◌==◌, not, nat_lt, Bool, true, false, if◌then◌else◌, Option, Some, None, List, [], ◌∷◌, ◌++◌, map, take, drop}
-use Rattle.std.specs.List.{flat_map, position_or_len}
+use Rattle.std.specs.Prelude.{ℕ, suc, ◌+◌, not, nat_lt, Bool, true, false, if◌then◌else◌, Option, Some, None, List, [], ◌∷◌, ◌++◌, map, take, drop}
+use Rattle.std.specs.List.{flat_map}
 use Rattle.swift_base.specs.declared.plugins.Plugin.{Plugin}
 use Rattle.swift_tree.specs.declared.item.Kind.{Kind}
 use Rattle.swift_tree.specs.declared.item.Kind.TheVariants as kind
@@ -37,7 +37,8 @@ local_sites text macros attribute = local_by attribute (macro_of macros text att
 
 -- how many of the local attributes begin before the use
 abbrev pub before_use : MacroUse → List Attr → ℕ
-before_use macro_use locals = position_or_len (λ attribute. not (nat_lt attribute.span.start macro_use.span.start)) locals
+before_use macro_use [] = 0
+before_use macro_use (attribute ∷ locals) = if nat_lt attribute.span.start macro_use.span.start then suc (before_use macro_use locals) else 0
 
 -- uses and local attributes by their offsets
 abbrev pub own_sites : List ℕ → List MacroDecl → List Plugin → Role → List MacroUse → List Attr → List Site

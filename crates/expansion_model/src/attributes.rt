@@ -2,6 +2,7 @@
 ghost use Rattle.std.specs.Prelude.{◌≡◌, ◌++◌, ◌∷◌, [], map, replicate, option_copied, IfOk};
 ghost use Rattle.std.specs.List.{flat_map, list_any};
 ghost use Rattle.unique_names.specs.declared.role.Role.TheVariants as role;
+ghost use Rattle.expansion_model.specs.Macros.{fits};
 ghost use Rattle.expansion_model.specs.Uses.{use_site};
 ghost use Rattle.expansion_model.specs.declared.site.Site.TheVariants as Site;
 ghost use Rattle.expansion_model.specs.Attributes.{carrier, has_one_name, has_body, variable_fault, place_fault, plugin_fault, fitting_fault, role_fault, first_fault, attribute_fault, named_by, macro_site, attribute_by, attribute_sites, is_none, asks_macro, asks_role, role_requests, role_sites};
@@ -13,7 +14,7 @@ use crate::uses::{fault_at, use_site};
 use macro_decls::{MacroDecl, MacroTable, RoleDecl};
 use std::alloc::{AllocError, Global};
 use swift_base::Plugin;
-use swift_tree::{Attr, Binding, BlockShape, Item, MacroUse};
+use swift_tree::{Attr, Binding, BlockShape, Item, Kind, MacroUse};
 use unique_names::Role;
 
 /// Exactly one binding, of exactly one name.
@@ -110,12 +111,18 @@ fn first_fault(
     None
 }
 
+fn any_fits(roles: &[RoleDecl], kind: Kind) -> bool
+    ensures { result ≡ list_any (λ own. fits own.role kind) roles.now }
+{
+    roles.iter().any(|own| fits(own.role, kind))
+}
+
 /// The fault of an attribute that names the macro.
 fn attribute_fault(plugins: &[Plugin], item: &Item, declared: &MacroDecl) -> Option<SiteKind>
     ensures { result ≡ attribute_fault plugins.now (carrier item.now) declared.now }
 {
     let roles = declared.roles.items();
-    if !roles.iter().any(|own| fits(own.role, item.kind)) {
+    if !any_fits(roles, item.kind) {
         return Some(SiteKind::WrongRole);
     }
     first_fault(plugins, item, declared, roles)

@@ -1,5 +1,5 @@
 // The sites of a source, in the order of their visits.
-ghost use Rattle.std.specs.Prelude.{◌≡◌, ◌++◌, ◌+◌, IfOk};
+ghost use Rattle.std.specs.Prelude.{◌≡◌, ◌++◌, ◌≤◌, IfOk};
 ghost use Rattle.std.specs.List.{All, flat_map};
 ghost use Rattle.swift_tree.specs.Outlines.{block_of, item_of, items_of, outline_of};
 ghost use Rattle.macro_decls.specs.Macros.{IsDeclReadable};
@@ -69,10 +69,14 @@ fn put_locals(
 fn before_use(macro_use: MacroUse, locals: &[Attr]) -> usize
     ensures { result ≡ before_use macro_use locals.now }
 {
-    locals
-        .iter()
-        .position(|attribute| attribute.span.start >= macro_use.span.start)
-        .unwrap_or(locals.len())
+    let mut count = 0;
+    'locals: for attribute in locals {
+        if attribute.span.start >= macro_use.span.start {
+            return count;
+        }
+        count += 1;
+    }
+    count
 }
 
 /// Uses and local attributes by their offsets.
@@ -100,11 +104,24 @@ fn put_own(
     put_locals(alloc, text, macros, rest, sites)
 }
 
+/// One for a declaration, none for a macro use.
+#[tactic(auto, using(crate::proofs::Parts::member_is))]
+fn one_if_member(item: &Item) -> usize
+    ensures count { result ≡ one_if (is_member (item_of item.now)) }
+    ensures small { result ≤ 1 }
+{
+    if is_use(item.kind) { 0 } else { 1 }
+}
+
 /// The declarations in a row that are no macro uses.
 fn count_members(items: &[Item]) -> usize
     ensures { result ≡ count_members (items_of items.now) }
 {
-    items.iter().filter(|item| !is_use(item.kind)).count()
+    let mut count = 0;
+    'items: for item in items {
+        count += one_if_member(item);
+    }
+    count
 }
 
 fn members_in(block: &Block) -> usize
@@ -176,10 +193,17 @@ fn put_item(
         ≡ sites.old.items ++ item_sites text.now macros.now plugins.now (item_of item.now)) }
 {
     put_before(alloc, text, macros, plugins, item, sites)?;
-    if let Some(block) = &item.block {
-        put_block(alloc, text, macros, plugins, block, sites)?;
+    match &item.block {
+        Some(block) => {
+            put_block(alloc, text, macros, plugins, block, sites)?;
+            put_behind(text, macros, plugins, item, sites)?;
+            Ok(())
+        }
+        None => {
+            put_behind(text, macros, plugins, item, sites)?;
+            Ok(())
+        }
     }
-    put_behind(text, macros, plugins, item, sites)
 }
 
 /// Only a block of members has members.
@@ -196,7 +220,10 @@ fn put_block(
         ≡ sites.old.items ++ block_sites text.now macros.now plugins.now (block_of block.now)) }
 {
     match block.shape {
-        BlockShape::Members => put_items(alloc, text, macros, plugins, &block.members, sites),
+        BlockShape::Members => {
+            put_items(alloc, text, macros, plugins, &block.members, sites)?;
+            Ok(())
+        }
         BlockShape::Body | BlockShape::Accessors => Ok(()),
     }
 }

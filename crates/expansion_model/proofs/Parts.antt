@@ -8,7 +8,7 @@ use Rattle.swift_tree.specs.declared.item.Item.{Item, out-Item}
 use Rattle.swift_tree.specs.Outlines.{BlockSeen, block, block_from, block_of, item_of, items_of}
 use Rattle.macro_decls.specs.declared.table.MacroDecl.{MacroDecl}
 use Rattle.expansion_model.specs.Attributes.{Carrier, carrier, head_of, shape_in}
-use Rattle.expansion_model.specs.Sites.{carrier_of, shape_of, members_in, members_of, sites_before, sites_behind, item_sites, block_sites, items_sites}
+use Rattle.expansion_model.specs.Sites.{carrier_of, shape_of, is_use, is_member, count_members, members_in, members_of, sites_before, sites_behind, item_sites, block_sites, items_sites}
 use Rattle.expansion_model.specs.declared.site.Site.{Site}
 use Rattle.expansion_model.proofs.Outlines.{item_of-is, block_of-is}
 
@@ -24,6 +24,21 @@ carrier_is i = ap (λ (s : Option BlockShape). record { head = head_of i; shape 
 
 pub members_is : (i : Item) → members_of (item_of i) ≡ members_in (inner_of i)
 members_is i = ap members_of (item_of-is i)
+
+pub member_is : (i : Item) → is_member (item_of i) ≡ not (is_use (out-Item i).kind)
+member_is i = ap is_member (item_of-is i)
+
+in_shape : (b : Block) (s : BlockShape) → (out-Block b).shape ≡ s → members_in (block_of b) ≡ members_in (block (out-Block b).span s (items_of (out-Block b).members.items))
+in_shape b s is = ap members_in (block_of-is b) ∙ ap (λ t. members_in (block (out-Block b).span t (items_of (out-Block b).members.items))) is
+
+pub members_in-members : (b : Block) → (out-Block b).shape ≡ shape.Members → members_in (block_of b) ≡ count_members (items_of (out-Block b).members.items)
+members_in-members b is = in_shape b shape.Members is
+
+pub members_in-body : (b : Block) → (out-Block b).shape ≡ shape.Body → members_in (block_of b) ≡ 0
+members_in-body b is = in_shape b shape.Body is
+
+pub members_in-accessors : (b : Block) → (out-Block b).shape ≡ shape.Accessors → members_in (block_of b) ≡ 0
+members_in-accessors b is = in_shape b shape.Accessors is
 
 pub members_is-none : (i : Item) → (out-Item i).block ≡ None → members_of (item_of i) ≡ 0
 members_is-none i lacks = members_is i ∙ ap (λ o. members_in (block_from (option_map block_of o))) lacks
