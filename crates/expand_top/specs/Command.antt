@@ -1,5 +1,5 @@
 -- The command that words mean. This project's own.
-use Rattle.std.specs.Prelude.{ℕ, ◌==◌, ◌&&◌, ◌||◌, not, nat_lt, Bool, true, false, if◌then◌else◌, Option, Some, None, option_map, List, [], ◌∷◌, length, codes}
+use Rattle.std.specs.Prelude.{ℕ, ◌==◌, ◌&&◌, ◌||◌, not, nat_lt, Bool, true, false, if◌then◌else◌, Option, Some, None, option_map, option_and_then, List, [], ◌∷◌, length, codes}
 use Rattle.std.specs.Char.{is_ascii_alphabetic, is_ascii_alphanumeric}
 use Rattle.std.specs.List.{list_all, position_or_len, before_first, after_first}
 use Rattle.std.specs.Str.{bytes_eq}
@@ -40,18 +40,41 @@ plugin_of word =
     then Some (record { «module» = before_first (λ b. b == 61) word; command = after_first (λ b. b == 61) word })
     else None
 
-abbrev pub expands : List ℕ → List ℕ → Option (List Plugin) → Option Command
-expands verb source None = None
-expands verb source (Some plugins) =
-    if bytes_eq verb (codes "expand") && is_plain source then Some (command.Expand source plugins) else None
-
 -- no plug-in, or the one that the word names
 abbrev pub plugins_of : Option (List ℕ) → Option (List Plugin)
 plugins_of None = Some []
 plugins_of (Some word) = option_map (λ plugin. plugin ∷ []) (plugin_of word)
 
--- `expand SOURCE [MODULE=COMMAND]`; any other words are no command
+-- the words by what they name: the file of macros, the source, and a plug-in
+pub record Named : Type 0 where
+  pub macros : Option (List ℕ)
+  pub source : List ℕ
+  pub plugin : Option (List ℕ)
+
+abbrev pub named_if : Bool → Named → Option Named
+named_if plain named = if plain then Some named else None
+
+abbrev pub source_words : Option (List ℕ) → List (List ℕ) → Option Named
+source_words macros (source ∷ []) = named_if (is_plain source) (record { macros = macros; source = source; plugin = None })
+source_words macros (source ∷ word ∷ []) = named_if (is_plain source) (record { macros = macros; source = source; plugin = Some word })
+source_words macros words = None
+
+abbrev pub macros_words : List (List ℕ) → Option Named
+macros_words [] = None
+macros_words (file ∷ words) = if is_plain file then source_words (Some file) words else None
+
+abbrev pub option_words : List (List ℕ) → Option Named
+option_words [] = None
+option_words (first ∷ words) = if bytes_eq first (codes "--macros") then macros_words words else source_words None (first ∷ words)
+
+-- `expand [--macros FILE] SOURCE [MODULE=COMMAND]`
+abbrev pub named_in : List (List ℕ) → Option Named
+named_in [] = None
+named_in (verb ∷ words) = if bytes_eq verb (codes "expand") then option_words words else None
+
+abbrev pub command_named : Named → Option Command
+command_named named = option_map (command.Expand named.source named.macros) (plugins_of named.plugin)
+
+-- the command of these words; any other words are none
 abbrev pub command_of : List (List ℕ) → Option Command
-command_of (verb ∷ source ∷ []) = expands verb source (plugins_of None)
-command_of (verb ∷ source ∷ word ∷ []) = expands verb source (plugins_of (Some word))
-command_of words = None
+command_of words = option_and_then command_named (named_in words)

@@ -1,7 +1,11 @@
--- What the line of a refused text says. This project's own.
-use Rattle.std.specs.Prelude.{ℕ, List, codes}
+-- What the lines of faults say. This project's own.
+use Rattle.std.specs.Prelude.{ℕ, List, ◌++◌, codes}
 use Rattle.decl_parser.specs.declared.fault.ParseKind.{ParseKind}
 use Rattle.decl_parser.specs.declared.fault.ParseKind.TheVariants as kind
+use Rattle.macro_decls.specs.declared.fault.MacroKind.{MacroKind}
+use Rattle.macro_decls.specs.declared.fault.MacroKind.TheVariants as declaration
+use Rattle.expansion_model.specs.declared.site.SiteKind.{SiteKind}
+use Rattle.expansion_model.specs.declared.site.SiteKind.TheVariants as site
 
 -- one row a kind of fault
 abbrev pub fault_text : ParseKind → List ℕ
@@ -32,3 +36,39 @@ fault_text kind.Empty = codes "the reply is empty"
 -- of a source and of a reply alike
 abbrev pub too_large : List ℕ
 too_large = fault_text kind.SourceTooLarge
+
+-- a name in quotes between two texts
+abbrev pub quoting : List ℕ → List ℕ → List ℕ → List ℕ
+quoting before name behind = before ++ (name ++ behind)
+
+-- one row a kind of fault of a macro's declaration, by the macro's name
+abbrev pub macro_fault_text : MacroKind → List ℕ → List ℕ
+macro_fault_text declaration.Duplicate name = quoting (codes "macro '") name (codes "' is declared twice")
+macro_fault_text declaration.NoRole name = quoting (codes "macro '") name (codes "' has no role")
+macro_fault_text declaration.BadRole name = codes "this role is left out or repeated"
+macro_fault_text declaration.BothFreestanding name = quoting (codes "macro '") name (codes "' has two freestanding roles")
+macro_fault_text declaration.BadNames name = codes "this list of names is not understood"
+macro_fault_text declaration.BadConformances name = codes "this list of conformances is not understood"
+macro_fault_text declaration.NotExternal name = quoting (codes "macro '") name (codes "' is not an external macro")
+
+-- one row a kind of fault of a site, by the macro's name, or the module's
+abbrev pub site_fault_text : SiteKind → List ℕ → List ℕ
+site_fault_text site.UnknownMacro name = quoting (codes "no macro named '") name (codes "'")
+site_fault_text site.LocalAttached name = quoting (codes "macro '") name (codes "' is attached in a local place")
+site_fault_text site.WrongRole name = quoting (codes "macro '") name (codes "' has no role for this place")
+site_fault_text site.NotOneBinding name = codes "an accessor macro needs a variable with one name"
+site_fault_text site.AccessorOnBody name = codes "an accessor macro needs a variable without a getter block"
+site_fault_text site.NoPlugin name = quoting (codes "no plug-in for module '") name (codes "'")
+
+abbrev pub not_built : List ℕ
+not_built = codes "this form is not built yet"
+
+-- of a request whose plug-in has this module
+abbrev pub no_reply_text : List ℕ → List ℕ
+no_reply_text module_name = quoting (codes "plug-in '") module_name (codes "' gave no reply")
+
+abbrev pub too_many_requests : List ℕ
+too_many_requests = codes "the file needs more than 65536 expansions"
+
+abbrev pub too_many_bytes : List ℕ
+too_many_bytes = codes "the plug-ins sent more than 67108864 bytes"

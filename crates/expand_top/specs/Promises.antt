@@ -1,73 +1,73 @@
 -- What a run promises of a source, promise by promise. This project's own.
-use Rattle.std.specs.Prelude.{◌≡◌, ◌⊎◌, ℕ, ◌<◌, ◌++◌, List, [], ◌∷◌, map, take, drop}
-use Rattle.std.specs.List.{flat_map}
+use Rattle.std.specs.Prelude.{◌≡◌, ◌⊎◌, ℕ, ◌<◌, Option, List, [], map}
 use Rattle.swift_base.specs.Told.{then_bytes, Rose}
 use Rattle.swift_base.specs.Outside.{SinkSeen, FilesSeen}
+use Rattle.swift_base.specs.declared.place.Span.{Span}
 use Rattle.swift_base.specs.declared.plugins.Plugin.{Plugin}
-use Rattle.expand_top.specs.Elements.{text_at}
-use Rattle.expand_top.specs.Link.{IsWritten}
-use Rattle.expand_top.specs.Run.{LinkSeen, Asking}
-use Rattle.expand_top.specs.Site.{KeySteps, site_of, asked_at, key_of, request_of, sent_for}
-use Rattle.expand_top.specs.Reading.{reading_of}
-use Rattle.expand_top.specs.declared.reading.Reading.{Reading}
-use Rattle.expand_top.specs.declared.reading.Reading.TheVariants as reading
-use Rattle.swift_tree.specs.declared.item.MacroUse.{MacroUse}
-use Rattle.expand_top.specs.declared.declarations.Declaration.{Declaration}
-use Rattle.expand_top.specs.declared.site.Site.{Site}
-use Rattle.expand_top.specs.declared.site.Site.TheVariants as site
-use Rattle.expand_top.specs.declared.ended.SourceRead.{SourceRead}
-use Rattle.expand_top.specs.declared.ended.SourceRead.TheVariants as read
+use Rattle.plugin_messages.specs.declared.message.Outcome.{Outcome}
+use Rattle.expansion_model.specs.Sites.{sites_of}
+use Rattle.expansion_model.specs.Spans.{spans_of}
+use Rattle.link_driver.specs.Driven.{Each}
+use Rattle.link_driver.specs.Laws.{AsksOnce, IsServedOf, HasRepliesButLast, GaveLinks, StartsAsWanted, FailedBetween, HasCause}
+use Rattle.link_driver.specs.Links.{LinkSeen}
+use Rattle.link_driver.specs.LinkTable.{IsTableOf}
+use Rattle.link_driver.specs.Requests.{Wanted}
+use Rattle.expand_top.specs.Answer.{IsEdited}
+use Rattle.expand_top.specs.Asking.{Asking, wanted_by}
+use Rattle.expand_top.specs.Meaning.{Meaning, Refused, Means, meaning_of}
+use Rattle.expand_top.specs.declared.edit.Edit.{Edit}
+use Rattle.expand_top.specs.declared.ended.Inputs.{Inputs}
 
--- what stands at the use of a source that was read: nothing where it is refused or is not expanded yet
-abbrev pub site_in : List ℕ → List Plugin → Reading → Site
-site_in text plugins (reading.Refused fault) = site.Nothing
-site_in text plugins (reading.NotBuilt at) = site.Nothing
-site_in text plugins (reading.Built form) = site_of text plugins form
+-- what is asked for the files of a command
+abbrev pub wanted_of_run : Option (List ℕ) → List ℕ → List Plugin → Inputs → List Wanted
+wanted_of_run macros name plugins inputs = wanted_by name plugins (meaning_of macros name inputs)
 
--- a fact about the source's text and what stands at its use
-abbrev pub OfSource : List Plugin → SourceRead → (List ℕ → Site → Type 0) → Type 0
-OfSource plugins read.Nothing P = ⊥
-OfSource plugins read.Failed P = P [] site.Nothing
-OfSource plugins read.Larger P = P [] site.Nothing
-OfSource plugins (read.Bytes text) P = P text (site_in text plugins (reading_of text))
+-- Each request of the source was asked once, and no other was; some may be left where the processes gave more bytes
+-- than are read.
+abbrev pub AskedOnce : Option (List ℕ) → List ℕ → List Plugin → Inputs → Asking → Type 0
+AskedOnce macros name plugins inputs asking = AsksOnce (wanted_of_run macros name plugins inputs) asking.links asking.unstarted
 
--- the keys that were asked, of processes and of starts that failed
-abbrev pub asked_keys : Asking → List KeySteps
-asked_keys asking = flat_map (λ link. link.asked) asking.links ++ map (λ entry. entry.key) asking.unstarted
+-- each key of a process but its last has a reply
+abbrev pub RepliesInOrder : LinkSeen → Type 0
+RepliesInOrder link = (outcomes : List (Option Outcome)) → IsTableOf link outcomes → HasRepliesButLast outcomes
 
--- Each request of the source was asked once, and no other was.
-abbrev pub AskedOnce : List Plugin → SourceRead → Asking → Type 0
-AskedOnce plugins source asking = OfSource plugins source (λ text place. asked_keys asking ≡ asked_at place)
+-- Each process was asked for requests of its own module, and was given the greeting's frame and theirs, byte for byte.
+abbrev pub LinksServe : Option (List ℕ) → List ℕ → List Plugin → Inputs → Asking → Type 0
+LinksServe macros name plugins inputs asking =
+    Each (λ link. IsServedOf (wanted_of_run macros name plugins inputs) link × RepliesInOrder link) asking.links
 
-abbrev pub Each : {A : Type 0} → (A → Type 0) → List A → Type 0
-Each P [] = Unit {0}
-Each P (x ∷ xs) = P x × Each P xs
+-- What was read of each process, and which commands were started.
+pub record Starts (macros : Option (List ℕ)) (name : List ℕ) (plugins : List Plugin) (inputs : Inputs) (asking : Asking) : Type 0 where
+  pub links : GaveLinks asking.before.links asking.links asking.after.links
+  pub commands : StartsAsWanted (wanted_of_run macros name plugins inputs) asking.links asking.unstarted asking.before asking.after
 
--- a process was asked for the use's module, and given its request
-pub record IsServed (name text : List ℕ) (place : Site) (link : LinkSeen) : Type 0 where
-  pub macro_use : MacroUse
-  pub declaration : Declaration
-  pub asks : place ≡ site.Asks macro_use declaration
-  pub of_module : link.module_name ≡ text_at text declaration.module_name
-  pub asked : link.asked ≡ key_of macro_use ∷ []
-  pub given : IsWritten (sent_for (request_of name text macro_use declaration)) link.write_failed link.writer
+-- Each stop and each failed write has its cause.
+abbrev pub StopsHaveCause : List LinkSeen → Type 0
+StopsHaveCause links = Each HasCause links
 
--- Each process was asked for its own module, and was given the greeting's and the request's frame, byte for byte.
-abbrev pub LinksServe : List ℕ → List Plugin → SourceRead → Asking → Type 0
-LinksServe name plugins source asking = OfSource plugins source (λ text place. Each (IsServed name text place) asking.links)
+-- Each failed start has its cause.
+abbrev pub FailedStartsHaveCause : Asking → Type 0
+FailedStartsHaveCause asking = FailedBetween asking.before.faults asking.unstarted asking.after.faults
 
--- The bytes are the source's outside the use.
-abbrev pub KeepsOutside : List ℕ → Site → List ℕ → Type 0
-KeepsOutside text site.Nothing bytes = bytes ≡ text
-KeepsOutside text (site.Unknown macro_use) bytes = ⊥
-KeepsOutside text (site.NoPlugin macro_use declaration) bytes = ⊥
-KeepsOutside text (site.Asks macro_use declaration) bytes =
-    (fresh : List ℕ) × (bytes ≡ take macro_use.span.start text ++ (fresh ++ drop macro_use.span.end text))
+-- what is replaced of a source
+abbrev pub spans_in : List Plugin → Meaning → List Span
+spans_in plugins (Refused output) = []
+spans_in plugins (Means source macros) = spans_of (sites_of source macros plugins)
 
--- Where the status is 0, what `out` gained is the source outside the use.
-abbrev pub KeepsBytes : List Plugin → SourceRead → ℕ → SinkSeen → SinkSeen → Type 0
-KeepsBytes plugins source status out out_after = status ≡ 0
-    → OfSource plugins source (λ text place. (bytes : List ℕ) × KeepsOutside text place bytes × (out_after.held ≡ then_bytes out.held bytes))
+abbrev pub text_in : Meaning → List ℕ
+text_in (Refused output) = []
+text_in (Means source macros) = source.text
+
+-- The bytes are the source's outside what is replaced: the uses that were asked, and the attributes of macros.
+pub record KeepsOutside (plugins : List Plugin) (means : Meaning) (bytes : List ℕ) : Type 0 where
+  pub edits : List Edit
+  pub spans : map (λ edit. edit.span) edits ≡ spans_in plugins means
+  pub kept : IsEdited (text_in means) edits bytes
+
+-- Where the status is 0, what `out` gained is the source outside what is replaced.
+abbrev pub KeepsBytes : Option (List ℕ) → List ℕ → List Plugin → Inputs → ℕ → SinkSeen → SinkSeen → Type 0
+KeepsBytes macros name plugins inputs status out out_after = status ≡ 0
+    → (bytes : List ℕ) × KeepsOutside plugins (meaning_of macros name inputs) bytes × (out_after.held ≡ then_bytes out.held bytes)
 
 -- Each status of an expansion has its cause in what failed.
 pub record StatusHasCause (status : ℕ) (files files_after : FilesSeen) (out out_after err err_after : SinkSeen) : Type 0 where

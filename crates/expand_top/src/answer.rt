@@ -1,221 +1,314 @@
-// What is written for a source.
-ghost use Rattle.std.specs.Prelude.{◌≡◌, ◌<◌, ◌-◌, ◌^◌, IfOk, length};
-ghost use Rattle.expand_top.specs.Answer.{not_built_at, buffer_name, spliced_output, reply_output, outcome_output, unknown_output, no_plugin_output, site_output, output_seen, refuses_at, no_reply, splice_of, IsNear};
-ghost use Rattle.expand_top.specs.Elements.{text_at};
+// The answer for a source and the outcomes of what was asked at its sites.
+ghost use Rattle.std.specs.Prelude.{◌≡◌, ◌++◌, ◌∷◌, [], ◌<◌, ◌-◌, ◌^◌, IfOk, List, length, map, option_copied};
+ghost use Rattle.std.specs.List.{flat_map, list_any};
+ghost use Rattle.std.specs.List.Sorted.{IsPermutation};
+ghost use Rattle.expansion_model.specs.Requests.{place_of, IsPlaceIn};
+ghost use Rattle.expansion_model.specs.Spans.{LieApart, spans_of};
+ghost use Rattle.expand_top.specs.Answer.{buffer_name, in_brackets, line_at, splice_report, reply_report, outcome_report, site_report, reports_of, offset_of, AreEditsApart, is_missing, is_line, line_of, edit_of, edits_in, EditsLie, IsEdited, IsFile, IsByLines, IsAnswer};
 ghost use Rattle.expand_top.specs.Faults.{fault_text};
+ghost use Rattle.expand_top.specs.Lines.{error_at, output_seen};
+ghost use Rattle.expand_top.specs.Splices.{IsNear};
+ghost use Rattle.expand_top.specs.declared.answer.Report.TheVariants as Report;
 ghost use Rattle.expand_top.specs.declared.splice.Splice.TheVariants.{Refused};
 
-use crate::declarations::Declaration;
-use crate::elements::part;
-use crate::faults::fault_text;
-use crate::report::{Output, prints, quoting, refuses, refuses_at};
-use crate::site::{Site, key_of};
-use crate::splice::{Splice, expanded, splice_of};
+use crate::edit::{Edit, edited};
+use crate::faults::{
+    NOT_BUILT, TOO_MANY_BYTES, fault_text, no_reply_text, site_fault_text,
+};
+use crate::report::{Output, error_at, error_line, faults, prints, refuses};
+use crate::slices::{add, front};
+use crate::splice::{Splice, splice_of};
+use crate::table::Table;
 use decl_parser::{LONGEST_SOURCE, ParseFault};
+use expansion_model::{Ask, FIRST_PLACE, Place, Site, key_of, place_from};
+use macro_decls::MacroTable;
 use plugin_messages::{Diagnostic, Outcome};
 use std::alloc::{AllocError, Global};
-use swift_base::Text;
-use swift_tree::MacroUse;
+use swift_base::{Text, line_column};
 use unique_names::discriminator;
 
-const NOT_BUILT: &[u8] = b"this form is not built yet";
-
-const TOO_MANY_BYTES: &[u8] = b"the plug-ins sent more than 67108864 bytes";
-
-/// The refusal of what is not expanded yet.
-pub fn not_built_at(alloc: Global, name: &[u8], text: &[u8], at: u32) -> Result<Output, AllocError>
-    requires { length text.now < 2 ^ 32 - 1 }
-    ensures { IfOk result (λ output. output_seen output ≡ not_built_at name.now text.now at) }
-{
-    refuses_at(alloc, name, text, at, NOT_BUILT)
+/// What becomes of a site: a line, an edit of the source, or neither where its request has no outcome.
+#[derive(Debug, Drop)]
+pub enum Report {
+    Missing,
+    Line(Text),
+    Puts(Edit),
 }
 
 // The name of the buffer in which the reply to a use stands.
-fn buffer_name(alloc: Global, macro_use: MacroUse) -> Result<Vec<u8>, AllocError>
-    ensures { IfOk result (λ name. name.items ≡ buffer_name macro_use) }
+fn buffer_name(alloc: Global, ask: &Ask) -> Result<Vec<u8>, AllocError>
+    ensures { IfOk result (λ name. name.items ≡ buffer_name ask.now) }
 {
-    let key = key_of(alloc, macro_use)?;
+    let key = key_of(alloc, ask)?;
     let mut name = discriminator(alloc, &key)?.into_vec();
     name.extend_from_slice(b".swift")?;
     Ok(name)
 }
 
-// The line of a reply's first fault, at its place in the reply.
-fn refused_output(
+fn in_brackets(alloc: Global, bytes: &[u8]) -> Result<Text, AllocError>
+    ensures { IfOk result (λ text. text ≡ in_brackets bytes.now) }
+{
+    let mut text = Vec::from_slice(alloc, b"(")?;
+    text.extend_from_slice(bytes)?;
+    text.extend_from_slice(b")")?;
+    Ok(Text::from_vec(text))
+}
+
+fn line(
     alloc: Global,
-    macro_use: MacroUse,
+    name: &[u8],
+    text: &[u8],
+    place: Place,
+    message: &[u8],
+) -> Result<Report, AllocError>
+    requires { place ≡ place_of text.now place.at }
+    ensures { IfOk result (λ report. report ≡ Report.Line (error_at name.now text.now place.at message.now)) }
+{
+    Ok(Report::Line(Text::from_vec(error_at(alloc, name, text, place, message)?)))
+}
+
+// The line of a reply's first fault, at its place in the reply.
+fn fault_line(
+    alloc: Global,
+    ask: &Ask,
     reply: &[u8],
     fault: ParseFault,
-) -> Result<Output, AllocError>
+) -> Result<Report, AllocError>
     requires { IsNear reply.now (Refused fault) }
-    ensures { IfOk result (λ output. output_seen output ≡ refuses_at (buffer_name macro_use) reply.now fault.at (fault_text fault.kind)) }
+    ensures { IfOk result (λ report. report ≡ Report.Line (error_at (buffer_name ask.now) reply.now fault.at (fault_text fault.kind))) }
 {
-    let name = buffer_name(alloc, macro_use)?;
-    let message = fault_text(fault.kind);
-    if reply.len() > LONGEST_SOURCE {
-        return refuses(alloc, &name, 1, 1, message);
-    }
-    refuses_at(alloc, &name, reply, fault.at, message)
+    let name = buffer_name(alloc, ask)?;
+    let (row, column) = if reply.len() > LONGEST_SOURCE {
+        (1, 1)
+    } else {
+        let before = front(reply, fault.at as usize);
+        line_column(before, before.len() as u32)
+    };
+    let bytes = error_line(alloc, &name, row, column, fault_text(fault.kind))?;
+    Ok(Report::Line(Text::from_vec(bytes)))
 }
 
-fn spliced_output(
+fn splice_report(
     alloc: Global,
     name: &[u8],
     text: &[u8],
-    macro_use: MacroUse,
+    place: Place,
+    ask: &Ask,
     reply: &[u8],
     splice: Splice,
-) -> Result<Output, AllocError>
-    requires short { length text.now < 2 ^ 32 - 1 }
+) -> Result<Report, AllocError>
+    requires place { place ≡ place_of text.now ask.now.macro_use.span.start }
     requires near { IsNear reply.now splice }
-    ensures { IfOk result (λ output. output_seen output ≡ spliced_output name.now text.now macro_use reply.now splice) }
+    ensures { IfOk result (λ report. report ≡ splice_report name.now text.now ask.now reply.now splice) }
 {
     match splice {
-        Splice::NotYet => not_built_at(alloc, name, text, macro_use.span.start),
-        Splice::Refused(fault) => refused_output(alloc, macro_use, reply, fault),
-        Splice::Bytes(bytes) => Ok(prints(alloc, expanded(alloc, text, macro_use, bytes.bytes())?)),
+        Splice::NotYet => line(alloc, name, text, place, NOT_BUILT),
+        Splice::Refused(fault) => fault_line(alloc, ask, reply, fault),
+        Splice::Bytes(bytes) => Ok(Report::Puts(Edit {
+            span: ask.macro_use.span,
+            bytes: in_brackets(alloc, bytes.bytes())?,
+        })),
     }
 }
 
-fn no_reply_output(
+fn reply_report(
     alloc: Global,
     name: &[u8],
     text: &[u8],
-    macro_use: MacroUse,
-    declaration: Declaration,
-) -> Result<Output, AllocError>
-    requires { length text.now < 2 ^ 32 - 1 }
-    ensures { IfOk result (λ output. output_seen output
-        ≡ refuses_at name.now text.now macro_use.span.start (no_reply (text_at text.now declaration.module_name))) }
+    macros: &MacroTable,
+    place: Place,
+    ask: &Ask,
+    reply: Option<&[u8]>,
+    diagnostics: &[Diagnostic],
+) -> Result<Report, AllocError>
+    requires { place ≡ place_of text.now ask.now.macro_use.span.start }
+    ensures { IfOk result (λ report. report ≡ reply_report name.now text.now macros.now ask.now (option_copied reply.entry) diagnostics.now) }
 {
-    let module = part(
-        text,
-        declaration.module_name.start,
-        declaration.module_name.end,
-    );
-    let message = quoting(alloc, b"plug-in '", module, b"' gave no reply")?;
-    let output = refuses_at(alloc, name, text, macro_use.span.start, &message)?;
-    Ok(output)
+    let (Some(reply), []) = (reply, diagnostics) else {
+        return line(alloc, name, text, place, NOT_BUILT);
+    };
+    let splice = splice_of(alloc, macros, reply)?;
+    splice_report(alloc, name, text, place, ask, reply, splice)
 }
 
-fn outcome_output(
+fn outcome_report(
     alloc: Global,
     name: &[u8],
     text: &[u8],
-    declarations: &[Declaration],
-    macro_use: MacroUse,
-    declaration: Declaration,
-    outcome: Option<Outcome>,
-) -> Result<Output, AllocError>
-    requires { length text.now < 2 ^ 32 - 1 }
-    ensures { IfOk result (λ output. output_seen output ≡ outcome_output name.now text.now declarations.now macro_use declaration outcome) }
+    macros: &MacroTable,
+    place: Place,
+    ask: &Ask,
+    outcome: Option<&Outcome>,
+) -> Result<Report, AllocError>
+    requires { place ≡ place_of text.now ask.now.macro_use.span.start }
+    ensures { IfOk result (λ report. report ≡ outcome_report name.now text.now macros.now ask.now (option_copied outcome.entry)) }
 {
     match outcome {
-        None => refuses(alloc, name, 1, 1, TOO_MANY_BYTES),
-        Some(Outcome::Failed(_)) => no_reply_output(alloc, name, text, macro_use, declaration),
-        Some(
-            Outcome::Reply {
-                text: reply,
-                diagnostics,
-            },
-        ) => reply_output(
-            alloc,
-            name,
-            text,
-            declarations,
-            macro_use,
-            reply,
-            diagnostics.items(),
-        ),
-    }
-}
-
-fn reply_output(
-    alloc: Global,
-    name: &[u8],
-    text: &[u8],
-    declarations: &[Declaration],
-    macro_use: MacroUse,
-    reply: Option<Text>,
-    diagnostics: &[Diagnostic],
-) -> Result<Output, AllocError>
-    requires { length text.now < 2 ^ 32 - 1 }
-    ensures { IfOk result (λ output. output_seen output ≡ reply_output name.now text.now declarations.now macro_use reply diagnostics.now) }
-{
-    let Some(reply) = reply else {
-        return not_built_at(alloc, name, text, macro_use.span.start);
-    };
-    match diagnostics {
-        [] => {
-            let reply = reply.bytes();
-            let splice = splice_of(alloc, text, declarations, reply)?;
-            spliced_output(alloc, name, text, macro_use, reply, splice)
+        None => Ok(Report::Missing),
+        Some(Outcome::Failed(_)) => {
+            let message = no_reply_text(alloc, ask.target.module.bytes())?;
+            line(alloc, name, text, place, &message)
         }
-        [_, ..] => not_built_at(alloc, name, text, macro_use.span.start),
+        Some(Outcome::Reply {
+            text: reply,
+            diagnostics,
+        }) => {
+            let reply = reply.as_ref().map(|reply| reply.bytes());
+            let diagnostics = diagnostics.items();
+            reply_report(alloc, name, text, macros, place, ask, reply, diagnostics)
+        }
     }
 }
 
-fn unknown_output(
-    alloc: Global,
-    name: &[u8],
-    text: &[u8],
-    macro_use: MacroUse,
-) -> Result<Output, AllocError>
-    requires { length text.now < 2 ^ 32 - 1 }
-    ensures { IfOk result (λ output. output_seen output ≡ unknown_output name.now text.now macro_use) }
-{
-    let macro_name = part(text, macro_use.name.start, macro_use.name.end);
-    let message = quoting(alloc, b"no macro named '", macro_name, b"'")?;
-    let output = refuses_at(alloc, name, text, macro_use.span.start, &message)?;
-    Ok(output)
-}
-
-fn no_plugin_output(
-    alloc: Global,
-    name: &[u8],
-    text: &[u8],
-    macro_use: MacroUse,
-    declaration: Declaration,
-) -> Result<Output, AllocError>
-    requires { length text.now < 2 ^ 32 - 1 }
-    ensures { IfOk result (λ output. output_seen output ≡ no_plugin_output name.now text.now macro_use declaration) }
-{
-    let module = part(
-        text,
-        declaration.module_name.start,
-        declaration.module_name.end,
-    );
-    let message = quoting(alloc, b"no plug-in for module '", module, b"'")?;
-    let output = refuses_at(alloc, name, text, macro_use.span.start, &message)?;
-    Ok(output)
-}
-
-/// What is written for a source with these macros, by what stands at its use and the outcome of what was asked there.
-pub fn site_output(
-    alloc: Global,
-    name: &[u8],
-    text: &[u8],
-    declarations: &[Declaration],
-    site: Site,
-    outcome: Option<Outcome>,
-) -> Result<Output, AllocError>
-    requires { length text.now < 2 ^ 32 - 1 }
-    ensures { IfOk result (λ output. output_seen output ≡ site_output name.now text.now declarations.now site outcome) }
+// The offset of a site.
+fn offset_of(site: &Site) -> u32
+    ensures { result ≡ offset_of site.now }
 {
     match site {
-        Site::Nothing => Ok(prints(alloc, Vec::from_slice(alloc, text)?)),
-        Site::Unknown(macro_use) => unknown_output(alloc, name, text, macro_use),
-        Site::NoPlugin(macro_use, declaration) => {
-            no_plugin_output(alloc, name, text, macro_use, declaration)
-        }
-        Site::Asks(macro_use, declaration) => outcome_output(
-            alloc,
-            name,
-            text,
-            declarations,
-            macro_use,
-            declaration,
-            outcome,
-        ),
+        Site::Asks(ask) => ask.macro_use.span.start,
+        Site::Fault(fault) => fault.at,
+        Site::NotBuilt(at) => *at,
+        Site::Attribute(span) => span.start,
     }
+}
+
+fn site_report(
+    alloc: Global,
+    name: &[u8],
+    text: &[u8],
+    macros: &MacroTable,
+    table: &Table,
+    place: Place,
+    site: &Site,
+) -> Result<Report, AllocError>
+    requires { place ≡ place_of text.now (offset_of site.now) }
+    ensures { IfOk result (λ report. report ≡ site_report name.now text.now macros.now table.now site.now) }
+{
+    match site {
+        Site::Asks(ask) => {
+            let key = key_of(alloc, ask)?;
+            outcome_report(alloc, name, text, macros, place, ask, table.get(&key))
+        }
+        Site::Fault(fault) => {
+            let message = site_fault_text(alloc, fault.kind, fault.name.bytes())?;
+            line(alloc, name, text, place, &message)
+        }
+        Site::NotBuilt(_) => line(alloc, name, text, place, NOT_BUILT),
+        Site::Attribute(span) => Ok(Report::Puts(Edit {
+            span: *span,
+            bytes: Text::from_bytes(alloc, b" ")?,
+        })),
+    }
+}
+
+/// What becomes of the sites of a text.
+#[tactic(auto, unfolding(crate::specs::Answer::reports_of))]
+pub fn reports_of(
+    alloc: Global,
+    name: &[u8],
+    text: &[u8],
+    macros: &MacroTable,
+    table: &Table,
+    sites: &[Site],
+) -> Result<Vec<Report>, AllocError>
+    requires { length text.now < 2 ^ 32 - 1 }
+    ensures { IfOk result (λ reports. reports.items ≡ reports_of name.now text.now macros.now table.now sites.now) }
+{
+    let mut reports = Vec::with_capacity(alloc, sites.len())?;
+    let mut place = FIRST_PLACE;
+    'sites: for site in sites {
+        place = place_from(text, place, offset_of(site));
+        let report = site_report(alloc, name, text, macros, table, place, site)?;
+        add(&mut reports, report)?;
+    }
+    Ok(reports)
+}
+
+fn is_missing(report: &Report) -> bool
+    ensures { result ≡ is_missing report.now }
+{
+    matches!(report, Report::Missing)
+}
+
+fn is_line(report: &Report) -> bool
+    ensures { result ≡ is_line report.now }
+{
+    matches!(report, Report::Line(_))
+}
+
+fn put_line(report: &Report, lines: &mut Vec<u8>) -> Result<(), AllocError>
+    ensures { IfOk result (λ _. lines.new.items ≡ lines.old.items ++ line_of report.now) }
+{
+    if let Report::Line(line) = report {
+        lines.extend_from_slice(line.bytes())?;
+    }
+    Ok(())
+}
+
+fn lines_of(alloc: Global, reports: &[Report]) -> Result<Vec<u8>, AllocError>
+    ensures { IfOk result (λ lines. lines.items ≡ flat_map line_of reports.now) }
+{
+    let mut lines = Vec::new(alloc);
+    'reports: for report in reports {
+        put_line(report, &mut lines)?;
+    }
+    Ok(lines)
+}
+
+fn put_edit(report: Report, edits: &mut Vec<Edit>) -> Result<(), AllocError>
+    ensures { IfOk result (λ _. edits.new.items ≡ edits.old.items ++ edit_of report) }
+{
+    match report {
+        Report::Missing | Report::Line(_) => Ok(()),
+        Report::Puts(edit) => add(edits, edit),
+    }
+}
+
+fn edits_in(alloc: Global, reports: Vec<Report>) -> Result<Vec<Edit>, AllocError>
+    ensures { IfOk result (λ edits. edits.items ≡ edits_in reports.items) }
+{
+    let mut edits = Vec::new(alloc);
+    'reports: for report in reports {
+        put_edit(report, &mut edits)?;
+    }
+    Ok(edits)
+}
+
+/// The edits of a text one behind the other.
+fn in_order(edits: Vec<Edit>, text: &[u8]) -> Result<Vec<Edit>, AllocError>
+    requires { LieApart 0 (length text.now) (map (λ edit. edit.span) edits.items) }
+    ensures same { IfOk result (λ sorted. IsPermutation edits.items sorted.items) }
+    ensures lie { IfOk result (λ sorted. EditsLie 0 sorted.items (length text.now)) }
+{
+    let mut sorted = edits;
+    sorted.sort_by_key(|edit| edit.span.start)?;
+    Ok(sorted)
+}
+
+/// The file: the text with the edits of its sites.
+fn file_of(alloc: Global, text: &[u8], reports: Vec<Report>) -> Result<Output, AllocError>
+    requires { LieApart 0 (length text.now) (map (λ edit. edit.span) (edits_in reports.items)) }
+    ensures { IfOk result (λ output. IsFile text.now reports.items (output_seen output)) }
+{
+    let sorted = in_order(edits_in(alloc, reports)?, text)?;
+    Ok(prints(alloc, edited(alloc, text, &sorted)?))
+}
+
+/// The answer for what became of the sites of a text.
+pub fn answer(
+    alloc: Global,
+    name: &[u8],
+    text: &[u8],
+    reports: Vec<Report>,
+) -> Result<Output, AllocError>
+    requires { AreEditsApart text.now reports.items }
+    ensures { IfOk result (λ output. IsAnswer name.now text.now reports.items (output_seen output)) }
+{
+    if reports.iter().any(|report| is_missing(report)) {
+        return refuses(alloc, name, 1, 1, TOO_MANY_BYTES);
+    }
+    if reports.iter().any(|report| is_line(report)) {
+        return Ok(faults(alloc, lines_of(alloc, &reports)?));
+    }
+    file_of(alloc, text, reports)
 }

@@ -1,8 +1,8 @@
 // What a run hands back.
-use crate::link::{Closed, Unstarted};
+use link_driver::{Closed, Unstarted};
 use swift_base::Text;
 
-/// How the source was read.
+/// How a file was read.
 #[derive(Drop)]
 pub enum SourceRead {
     /// No command asked for it.
@@ -13,11 +13,18 @@ pub enum SourceRead {
     Bytes(Text),
 }
 
-/// A run as it ended: its status, the source, the processes in the order of their starts, and the starts that failed.
+/// How the file of macros and the source were read.
+#[derive(Drop)]
+pub struct Inputs {
+    pub macros: SourceRead,
+    pub source: SourceRead,
+}
+
+/// A run as it ended: its status, its files, the processes in the order of their starts, and the starts that failed.
 #[derive(Drop)]
 pub struct Ended<W: Drop, R: Drop> {
     pub status: u8,
-    pub read: SourceRead,
+    pub read: Inputs,
     pub links: Vec<Closed<W, R>>,
     pub unstarted: Vec<Unstarted>,
 }

@@ -1,8 +1,11 @@
-// What the line of a refused text says.
-ghost use Rattle.std.specs.Prelude.{◌≡◌};
-ghost use Rattle.expand_top.specs.Faults.{fault_text};
+// What the lines of faults say.
+ghost use Rattle.std.specs.Prelude.{◌≡◌, IfOk};
+ghost use Rattle.expand_top.specs.Faults.{fault_text, quoting, macro_fault_text, site_fault_text, no_reply_text};
 
 use decl_parser::ParseKind;
+use expansion_model::SiteKind;
+use macro_decls::MacroKind;
+use std::alloc::{AllocError, Global};
 
 /// One row a kind of fault.
 pub fn fault_text(kind: ParseKind) -> &'static [u8]
@@ -34,3 +37,72 @@ pub fn fault_text(kind: ParseKind) -> &'static [u8]
         ParseKind::Empty => b"the reply is empty",
     }
 }
+
+/// A name in quotes between two texts.
+pub fn quoting(
+    alloc: Global,
+    before: &[u8],
+    name: &[u8],
+    behind: &[u8],
+) -> Result<Vec<u8>, AllocError>
+    ensures { IfOk result (λ v. v.items ≡ quoting before.now name.now behind.now) }
+{
+    let mut text = Vec::from_slice(alloc, before)?;
+    text.extend_from_slice(name)?;
+    text.extend_from_slice(behind)?;
+    Ok(text)
+}
+
+/// One row a kind of fault of a macro's declaration, by the macro's name.
+pub fn macro_fault_text(
+    alloc: Global,
+    kind: MacroKind,
+    name: &[u8],
+) -> Result<Vec<u8>, AllocError>
+    ensures { IfOk result (λ v. v.items ≡ macro_fault_text kind name.now) }
+{
+    match kind {
+        MacroKind::Duplicate => quoting(alloc, b"macro '", name, b"' is declared twice"),
+        MacroKind::NoRole => quoting(alloc, b"macro '", name, b"' has no role"),
+        MacroKind::BadRole => Vec::from_slice(alloc, b"this role is left out or repeated"),
+        MacroKind::BothFreestanding => {
+            quoting(alloc, b"macro '", name, b"' has two freestanding roles")
+        }
+        MacroKind::BadNames => Vec::from_slice(alloc, b"this list of names is not understood"),
+        MacroKind::BadConformances => {
+            Vec::from_slice(alloc, b"this list of conformances is not understood")
+        }
+        MacroKind::NotExternal => quoting(alloc, b"macro '", name, b"' is not an external macro"),
+    }
+}
+
+/// One row a kind of fault of a site, by the macro's name, or the module's.
+pub fn site_fault_text(alloc: Global, kind: SiteKind, name: &[u8]) -> Result<Vec<u8>, AllocError>
+    ensures { IfOk result (λ v. v.items ≡ site_fault_text kind name.now) }
+{
+    match kind {
+        SiteKind::UnknownMacro => quoting(alloc, b"no macro named '", name, b"'"),
+        SiteKind::LocalAttached => quoting(alloc, b"macro '", name, b"' is attached in a local place"),
+        SiteKind::WrongRole => quoting(alloc, b"macro '", name, b"' has no role for this place"),
+        SiteKind::NotOneBinding => {
+            Vec::from_slice(alloc, b"an accessor macro needs a variable with one name")
+        }
+        SiteKind::AccessorOnBody => {
+            Vec::from_slice(alloc, b"an accessor macro needs a variable without a getter block")
+        }
+        SiteKind::NoPlugin => quoting(alloc, b"no plug-in for module '", name, b"'"),
+    }
+}
+
+/// Of a request whose plug-in has this module.
+pub fn no_reply_text(alloc: Global, module_name: &[u8]) -> Result<Vec<u8>, AllocError>
+    ensures { IfOk result (λ v. v.items ≡ no_reply_text module_name.now) }
+{
+    quoting(alloc, b"plug-in '", module_name, b"' gave no reply")
+}
+
+pub const NOT_BUILT: &[u8] = b"this form is not built yet";
+
+pub const TOO_MANY_REQUESTS: &[u8] = b"the file needs more than 65536 expansions";
+
+pub const TOO_MANY_BYTES: &[u8] = b"the plug-ins sent more than 67108864 bytes";

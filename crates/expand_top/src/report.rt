@@ -1,9 +1,12 @@
 // What is written to the two streams.
 ghost use Rattle.std.specs.Prelude.{◌≡◌, ◌<◌, ◌-◌, ◌^◌, ◌++◌, [], length, map, take, decimal, codes, IfOk, string_bytes};
-ghost use Rattle.expand_top.specs.Answer.{Output as Written, plain_byte, plain, error_line, prints, refuses, refuses_at, output_seen};
+ghost use Rattle.expansion_model.specs.Requests.{place_of};
+ghost use Rattle.expand_top.specs.Lines.{plain_byte, plain, error_line, error_at, prints, faults, refuses, refuses_at, unread, output_seen};
 
-use crate::site::place_of;
+use crate::slices::front;
+use expansion_model::Place;
 use std::alloc::{AllocError, Global};
+use swift_base::line_column;
 
 /// What is written to standard output and to standard error, and the status.
 #[derive(Drop)]
@@ -60,6 +63,21 @@ fn error_line(
     Ok(bytes)
 }
 
+/// The line of a place.
+#[tactic(auto, unfolding(expansion_model::specs::Requests::place_of))]
+pub fn error_at(
+    alloc: Global,
+    name: &[u8],
+    source: &[u8],
+    place: Place,
+    text: &[u8],
+) -> Result<Vec<u8>, AllocError>
+    requires { place ≡ place_of source.now place.at }
+    ensures { IfOk result (λ v. v.items ≡ error_at name.now source.now place.at text.now) }
+{
+    error_line(alloc, name, place.line, place.column, text)
+}
+
 pub fn prints(alloc: Global, out: Vec<u8>) -> Output
     ensures { output_seen result ≡ prints out.items }
 {
@@ -67,6 +85,17 @@ pub fn prints(alloc: Global, out: Vec<u8>) -> Output
         out,
         err: Vec::new(alloc),
         status: 0,
+    }
+}
+
+/// Lines of faults, and nothing else.
+pub fn faults(alloc: Global, err: Vec<u8>) -> Output
+    ensures { output_seen result ≡ faults err.items }
+{
+    Output {
+        out: Vec::new(alloc),
+        err,
+        status: 1,
     }
 }
 
@@ -80,14 +109,10 @@ pub fn refuses(
     ensures { IfOk result (λ output. output_seen output ≡ refuses name.now line column text.now) }
 {
     let err = error_line(alloc, name, line, column, text)?;
-    Ok(Output {
-        out: Vec::new(alloc),
-        err,
-        status: 1,
-    })
+    Ok(faults(alloc, err))
 }
 
-/// The refusal at an offset of the source.
+/// The refusal at an offset of a text.
 pub fn refuses_at(
     alloc: Global,
     name: &[u8],
@@ -98,21 +123,19 @@ pub fn refuses_at(
     requires { length source.now < 2 ^ 32 - 1 }
     ensures { IfOk result (λ output. output_seen output ≡ refuses_at name.now source.now at text.now) }
 {
-    let (line, column) = place_of(source, at);
+    let before = front(source, at as usize);
+    let (line, column) = line_column(before, before.len() as u32);
     refuses(alloc, name, line, column, text)
 }
 
-/// A name in quotes between two texts.
-pub fn quoting(
-    alloc: Global,
-    before: &[u8],
-    name: &[u8],
-    behind: &[u8],
-) -> Result<Vec<u8>, AllocError>
-    ensures { IfOk result (λ v. v.items ≡ before.now ++ (name.now ++ behind.now)) }
+pub fn unread(alloc: Global, name: &[u8]) -> Result<Output, AllocError>
+    ensures { IfOk result (λ output. output_seen output ≡ unread name.now) }
 {
-    let mut text = Vec::from_slice(alloc, before)?;
-    text.extend_from_slice(name)?;
-    text.extend_from_slice(behind)?;
-    Ok(text)
+    let mut err = Vec::from_slice(alloc, name)?;
+    err.extend_from_slice(b": the file could not be read\n")?;
+    Ok(Output {
+        out: Vec::new(alloc),
+        err,
+        status: 3,
+    })
 }
