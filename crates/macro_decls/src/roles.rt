@@ -33,13 +33,13 @@ fn read(alloc: Global, text: &[u8]) -> Result<Vec<Element>, AllocError>
 fn is_freestanding(text: &[u8], attr: &Attr) -> bool
     ensures { result ≡ is_freestanding text.now attr.now }
 {
-    text_at(text, attr.name) == b"freestanding"
+    text_at(text, attr.name) == b"freestanding".as_slice()
 }
 
 fn is_attached(text: &[u8], attr: &Attr) -> bool
     ensures { result ≡ is_attached text.now attr.now }
 {
-    text_at(text, attr.name) == b"attached"
+    text_at(text, attr.name) == b"attached".as_slice()
 }
 
 fn gives_role(text: &[u8], attr: &Attr) -> bool
