@@ -101,11 +101,13 @@ pub fn cut<'a>(
 fn label_by(word: &[u8]) -> Label
     ensures { result ≡ label_by word.now }
 {
-    match word {
-        b"names" => Label::Names,
-        b"conformances" => Label::Conformances,
-        _ => Label::Other,
+    if word == b"names".as_slice() {
+        return Label::Names;
     }
+    if word == b"conformances".as_slice() {
+        return Label::Conformances;
+    }
+    Label::Other
 }
 
 // The label of a piece that begins with a word and a colon.

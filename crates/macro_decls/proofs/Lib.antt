@@ -1,0 +1,5 @@
+mod Chains
+mod Cutting
+mod Entries
+mod Outlines
+mod Trees
