@@ -10,7 +10,7 @@ use Rattle.macro_decls.specs.declared.table.MacroDecl.{MacroDecl}
 use Rattle.macro_decls.specs.Macros.{declaration_named}
 use Rattle.macro_decls.specs.Tables.{Entry, AreNamed, declarations_in}
 
-eq-sym : (one other : List ℕ) → pointwise nat_eq one other ≡ pointwise nat_eq other one
+pub eq-sym : (one other : List ℕ) → pointwise nat_eq one other ≡ pointwise nat_eq other one
 eq-sym one other = nat_list_eq_equiv.symm one other
 
 -- what is found under a name is the declaration of that name

@@ -1,5 +1,7 @@
 mod Chains
 mod Cutting
 mod Entries
+mod Faulty
+mod Freshness
 mod Outlines
 mod Trees
