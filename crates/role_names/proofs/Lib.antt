@@ -1,2 +1,3 @@
 pub mod Joined
-pub mod Deciding
+pub mod Decided
+pub mod Outlines

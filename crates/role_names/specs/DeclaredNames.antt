@@ -1,4 +1,4 @@
--- The names that a declaration declares: after The Swift Programming Language, Declarations.
+-- The names that a declaration declares: after The Swift Programming Language, Declarations, and this project's own for extensions.
 use Rattle.std.specs.Prelude.{List, [], ◌++◌}
 use Rattle.swift_base.specs.declared.place.Span.{Span}
 use Rattle.swift_tree.specs.declared.item.Kind.{Kind}

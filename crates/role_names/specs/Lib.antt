@@ -1,3 +1,3 @@
 pub mod Covered
-pub mod Tests
+pub mod Decided
 pub mod DeclaredNames

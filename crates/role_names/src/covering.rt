@@ -2,7 +2,7 @@
 ghost use Rattle.std.specs.Prelude.{◌≡◌, ◌++◌, Decides};
 ghost use Rattle.std.specs.Option.{option_copied};
 ghost use Rattle.role_names.specs.Covered.{IsCoveredBy, IsCoveredByList};
-ghost use Rattle.role_names.specs.Tests.{ListTestDecides, UniqueTestDecides, TestDecides};
+ghost use Rattle.role_names.specs.Decided.{ListIsDecided, UniqueIsDecided, IsDecided};
 
 use crate::rule::{NameList, NameRule};
 
@@ -40,9 +40,9 @@ fn is_joined(name: &[u8], front: &[u8], back: &[u8]) -> bool
     }
 }
 
-/// Each test of `specs/Tests.antt` holds exactly where its relation does.
-pub fn tests_decide()
-    ensures by_list { ListTestDecides }
-    ensures unique { UniqueTestDecides }
-    ensures either { TestDecides }
+/// The Boolean definitions of covered and of unique names hold exactly where the relations do.
+pub fn covered_names_are_decided()
+    ensures by_list { ListIsDecided }
+    ensures unique { UniqueIsDecided }
+    ensures either { IsDecided }
 {}

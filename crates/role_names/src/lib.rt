@@ -11,6 +11,6 @@ mod rule;
 #[cfg(test)]
 mod tests;
 
-pub use covering::{covers, tests_decide};
+pub use covering::{covered_names_are_decided, covers};
 pub use declaring::declared_names;
 pub use rule::{NameList, NameRule};

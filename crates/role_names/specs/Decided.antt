@@ -1,4 +1,4 @@
--- this project's own: the covered names as tests, for definitions that compute.
+-- this project's own: covered names by Boolean tests, for definitions that compute.
 use Rattle.std.specs.Prelude.{ℕ, Bool, true, false, ◌||◌, ◌&&◌, List, ◌++◌, length, nat_eq, nat_lt, Option, None, Some}
 use Rattle.std.specs.Bool.{Decides}
 use Rattle.std.specs.List.{list_any, starts_with}
@@ -14,6 +14,7 @@ abbrev pub is_made : Option (List ℕ) → (List ℕ → List ℕ) → List ℕ 
 is_made None make name = false
 is_made (Some attached) make name = bytes_eq name (make attached)
 
+-- as `IsCoveredBy`
 abbrev pub is_covered_by : Option (List ℕ) → List ℕ → NameRule → Bool
 is_covered_by attached name (Named own) = bytes_eq name own
 is_covered_by attached name Overloaded = is_made attached (λ a. a) name
@@ -32,13 +33,13 @@ abbrev pub is_covered : List NameRule → Option (List ℕ) → List KeyStep →
 is_covered rules attached key name = is_covered_by_list rules attached name || is_unique_name key name
 
 -- each test holds exactly where its relation does
-abbrev pub ListTestDecides : Type 0
-ListTestDecides = (rules : List NameRule) (attached : Option (List ℕ)) (name : List ℕ) →
+abbrev pub ListIsDecided : Type 0
+ListIsDecided = (rules : List NameRule) (attached : Option (List ℕ)) (name : List ℕ) →
     Decides (is_covered_by_list rules attached name) (IsCoveredByList rules attached name)
 
-abbrev pub UniqueTestDecides : Type 0
-UniqueTestDecides = (key : List KeyStep) (name : List ℕ) → Decides (is_unique_name key name) (IsUniqueName key name)
+abbrev pub UniqueIsDecided : Type 0
+UniqueIsDecided = (key : List KeyStep) (name : List ℕ) → Decides (is_unique_name key name) (IsUniqueName key name)
 
-abbrev pub TestDecides : Type 0
-TestDecides = (rules : List NameRule) (attached : Option (List ℕ)) (key : List KeyStep) (name : List ℕ) →
+abbrev pub IsDecided : Type 0
+IsDecided = (rules : List NameRule) (attached : Option (List ℕ)) (key : List KeyStep) (name : List ℕ) →
     Decides (is_covered rules attached key name) (IsCovered rules attached key name)
