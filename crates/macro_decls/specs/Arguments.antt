@@ -63,15 +63,15 @@ pub record Argument : Type 0 where
   pub entry : List Tree
 
 -- a piece by its own label, in the list that was begun before it
-abbrev pub argument : Option Label → List Tree → Option Label → Argument
-argument current piece None = record { label = current; begins = false; entry = piece }
-argument current piece (Some own) = record { label = Some own; begins = true; entry = drop 2 piece }
+abbrev pub argument_in : Option Label → List Tree → Option Label → Argument
+argument_in current piece None = record { label = current; begins = false; entry = piece }
+argument_in current piece (Some own) = record { label = Some own; begins = true; entry = drop 2 piece }
 
 -- a label begins a list, which goes on to the next label
 abbrev pub arguments : List ℕ → Option Label → List (List Tree) → List Argument
 arguments text current [] = []
 arguments text current (piece ∷ pieces) =
-    let first = argument current piece (label_of text piece) in first ∷ arguments text first.label pieces
+    let first = argument_in current piece (label_of text piece) in first ∷ arguments text first.label pieces
 
 abbrev pub is_names : Option Label → Bool
 is_names (Some label.Names) = true

@@ -24,10 +24,13 @@ abbrev pub is_role : Role → Option Role → Bool
 is_role role None = false
 is_role role (Some other) = row_of role == row_of other
 
+abbrev pub any_has_role : Role → List RoleWritten → Bool
+any_has_role role written = list_any (λ one. is_role role one.role) written
+
 -- no role, or one that an earlier attribute gives
 abbrev pub is_bad : List RoleWritten → Option Role → Bool
 is_bad earlier None = true
-is_bad earlier (Some role) = list_any (λ other. is_role role other.role) earlier
+is_bad earlier (Some role) = any_has_role role earlier
 
 -- the first attribute of which this is so, behind earlier ones
 abbrev pub bad_role : List RoleWritten → List RoleWritten → Option RoleWritten

@@ -1,5 +1,6 @@
 -- The attributes that give a macro its roles (SE-0382, SE-0389, SE-0397, SE-0402).
 use Rattle.std.specs.Prelude.{ℕ, ◌==◌, ◌&&◌, ◌||◌, not, if◌then◌else◌, Bool, true, false, Option, Some, None, option_and_then, Result, Ok, Err, List, [], ◌∷◌, length, drop, slice_get, codes}
+use Rattle.std.specs.Option.{option_map_or}
 use Rattle.std.specs.Str.{bytes_eq}
 use Rattle.swift_base.specs.declared.place.Span.{Span}
 use Rattle.swift_lexer.specs.declared.token.Token.{Token}
@@ -34,11 +35,13 @@ is_attached text attr = bytes_eq (text_at text attr.name) (codes "attached")
 abbrev pub gives_role : List ℕ → Attr → Bool
 gives_role text attr = not attr.dotted && (is_freestanding text attr || is_attached text attr)
 
+abbrev pub inside_tree : Tree → List Tree
+inside_tree (leaf token) = []
+inside_tree (nest left inner right) = trees_in inner
+
 -- what stands inside the one group that arguments are
 abbrev pub group_inside : List Tree → List Tree
-group_inside [] = []
-group_inside (leaf token ∷ trees) = []
-group_inside (nest left inner right ∷ trees) = trees_in inner
+group_inside trees = option_map_or inside_tree (slice_get trees 0) []
 
 -- a role of `@freestanding`; the others are roles of `@attached`
 abbrev pub stands_free : Role → Bool

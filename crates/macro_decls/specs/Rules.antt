@@ -1,5 +1,5 @@
 -- What stands behind `names:` (SE-0389) and behind `conformances:` (SE-0402).
-use Rattle.std.specs.Prelude.{ℕ, ◌==◌, ◌&&◌, ◌||◌, not, nat_lt, if◌then◌else◌, Bool, true, false, is_some, is_none, Option, Some, None, option_and_then, option_map, List, [], ◌∷◌, length, map, filter, count_by, codes}
+use Rattle.std.specs.Prelude.{ℕ, ◌==◌, ◌&&◌, ◌||◌, not, nat_le, if◌then◌else◌, Bool, true, false, is_some, is_none, Option, Some, None, option_and_then, option_map, List, [], ◌∷◌, length, map, filter, count_by, codes}
 use Rattle.std.specs.List.{list_any}
 use Rattle.std.specs.Option.{option_or}
 use Rattle.swift_lexer.specs.declared.token.Token.{Token}
@@ -88,12 +88,24 @@ begins_names argument = argument.begins && is_names argument.label
 abbrev pub begins_conformances : Argument → Bool
 begins_conformances argument = argument.begins && is_conformances argument.label
 
+abbrev pub any_stray : List Argument → Bool
+any_stray arguments = list_any is_stray arguments
+
+-- how many lists of names, and how many of conformances
+abbrev pub names_lists : List Argument → ℕ
+names_lists arguments = count_by begins_names arguments
+
+abbrev pub conformances_lists : List Argument → ℕ
+conformances_lists arguments = count_by begins_conformances arguments
+
+-- only the role extension takes conformances
+abbrev pub most_conformances : Option Role → ℕ
+most_conformances role = if is_extension role then 1 else 0
+
 -- the arguments behind the first are lists that the role takes, each at most once
 abbrev pub fits : Option Role → List Argument → Bool
 fits role arguments =
-    not (list_any is_stray arguments)
-    && not (nat_lt 1 (count_by begins_names arguments))
-    && not (nat_lt (if is_extension role then 1 else 0) (count_by begins_conformances arguments))
+    not (any_stray arguments) && nat_le (names_lists arguments) 1 && nat_le (conformances_lists arguments) (most_conformances role)
 
 -- the types behind `conformances:`, each as the texts of its tokens
 abbrev pub conformances_listed : List ℕ → List Argument → List (List ℕ)

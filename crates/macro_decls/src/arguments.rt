@@ -1,7 +1,7 @@
 // The arguments of an attribute.
 ghost use Rattle.std.specs.Prelude.{◌≡◌, ◌≤◌, ◌<◌, ◌^◌, IfOk, None, length, map};
 ghost use Rattle.swift_lexer.specs.Trees.{tree_of};
-ghost use Rattle.macro_decls.specs.Arguments.{is_operator, token_angles, angle_count, is_comma, cut, before_comma, label_by, label_of, argument, arguments, is_names, is_conformances, argument_seen};
+ghost use Rattle.macro_decls.specs.Arguments.{is_operator, token_angles, angle_count, is_comma, cut, before_comma, label_by, label_of, argument_in, arguments, is_names, is_conformances, argument_seen};
 
 use crate::elements::{Shape, behind, bytes_of, front, shape_of, spells, spells_at, word_at};
 use std::alloc::{AllocError, Global};
@@ -101,11 +101,13 @@ pub fn cut<'a>(
 fn label_by(word: &[u8]) -> Label
     ensures { result ≡ label_by word.now }
 {
-    match word {
-        b"names" => Label::Names,
-        b"conformances" => Label::Conformances,
-        _ => Label::Other,
+    if word == b"names".as_slice() {
+        return Label::Names;
     }
+    if word == b"conformances".as_slice() {
+        return Label::Conformances;
+    }
+    Label::Other
 }
 
 // The label of a piece that begins with a word and a colon.
@@ -120,8 +122,8 @@ fn label_of(text: &[u8], piece: &[Element]) -> Option<Label>
 }
 
 // A piece in the list that was begun before it.
-fn argument<'a>(text: &[u8], current: Option<Label>, piece: &'a [Element]) -> Argument<'a>
-    ensures { argument_seen result ≡ argument current (map tree_of piece.now) (label_of text.now (map tree_of piece.now)) }
+fn argument_in<'a>(text: &[u8], current: Option<Label>, piece: &'a [Element]) -> Argument<'a>
+    ensures { argument_seen result ≡ argument_in current (map tree_of piece.now) (label_of text.now (map tree_of piece.now)) }
 {
     match label_of(text, piece) {
         None => Argument {
@@ -148,7 +150,7 @@ pub fn arguments<'a>(
     let mut list = Vec::new(alloc);
     let mut current = None;
     'pieces: for piece in pieces {
-        let next = argument(text, current, piece);
+        let next = argument_in(text, current, piece);
         current = next.label;
         list.push(next)?;
     }

@@ -3,7 +3,7 @@ ghost use Rattle.std.specs.Prelude.{◌≡◌, ◌∷◌, ◌++◌, ◌||◌, []
 ghost use Rattle.std.specs.Option.{option_copied};
 ghost use Rattle.std.specs.Str.{bytes_eq};
 ghost use Rattle.indexmap.specs.IndexSet.{contains};
-ghost use Rattle.macro_decls.specs.Faults.{at_name, at_role, is_role, is_bad, bad_role, second_freestanding, bad_names, bad_conformances, first_fault, with_fault, is_among, faults_from};
+ghost use Rattle.macro_decls.specs.Faults.{at_name, at_role, is_role, any_has_role, is_bad, bad_role, second_freestanding, bad_names, bad_conformances, first_fault, with_fault, is_among, faults_from};
 
 use crate::elements::front;
 use crate::written::{MacroWritten, RoleWritten};
@@ -76,12 +76,19 @@ fn is_role(role: Role, other: Option<Role>) -> bool
     }
 }
 
+fn any_has_role(written: &[RoleWritten], role: Role) -> bool
+    ensures { result ≡ any_has_role role written.now }
+{
+    written.iter().any(|one| is_role(role, one.role))
+}
+
+// No role, or one that an earlier attribute gives.
 fn is_bad(earlier: &[RoleWritten], role: Option<Role>) -> bool
     ensures { result ≡ is_bad earlier.now role }
 {
     match role {
         None => true,
-        Some(role) => earlier.iter().any(|other| is_role(role, other.role)),
+        Some(role) => any_has_role(earlier, role),
     }
 }
 

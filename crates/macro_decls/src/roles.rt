@@ -3,7 +3,7 @@ ghost use Rattle.std.specs.Prelude.{◌≡◌, ◌++◌, ◌<◌, ◌+◌, ◌^�
 ghost use Rattle.swift_lexer.specs.Trees.{tree_of};
 ghost use Rattle.swift_tree.specs.Outlines.{outline_of};
 ghost use Rattle.unique_names.specs.Roles.{among, role_of};
-ghost use Rattle.macro_decls.specs.Roles.{trees_of, is_freestanding, is_attached, gives_role, group_inside, stands_free, is_of_sort, role_with, role_in, first_role, role_by, args_of, pieces_in, role_written};
+ghost use Rattle.macro_decls.specs.Roles.{trees_of, is_freestanding, is_attached, gives_role, inside_tree, group_inside, stands_free, is_of_sort, role_with, role_in, first_role, role_by, args_of, pieces_in, role_written};
 ghost use Rattle.macro_decls.specs.Macros.{external_of_text, head_of, is_macro, macro_written, name_span, written_in, written_from};
 
 use crate::arguments::{arguments, cut};
@@ -33,13 +33,13 @@ fn read(alloc: Global, text: &[u8]) -> Result<Vec<Element>, AllocError>
 fn is_freestanding(text: &[u8], attr: &Attr) -> bool
     ensures { result ≡ is_freestanding text.now attr.now }
 {
-    text_at(text, attr.name) == b"freestanding"
+    text_at(text, attr.name) == b"freestanding".as_slice()
 }
 
 fn is_attached(text: &[u8], attr: &Attr) -> bool
     ensures { result ≡ is_attached text.now attr.now }
 {
-    text_at(text, attr.name) == b"attached"
+    text_at(text, attr.name) == b"attached".as_slice()
 }
 
 fn gives_role(text: &[u8], attr: &Attr) -> bool
@@ -48,16 +48,22 @@ fn gives_role(text: &[u8], attr: &Attr) -> bool
     !attr.dotted && (is_freestanding(text, attr) || is_attached(text, attr))
 }
 
+fn inside_tree(element: &Element) -> &[Element]
+    ensures { map tree_of result.now ≡ inside_tree (tree_of element.now) }
+{
+    match shape_of(element) {
+        Shape::Leaf(_) => &[],
+        Shape::Nest { inner, .. } => inner,
+    }
+}
+
 // What stands inside the one group that arguments are.
 fn group_inside(elements: &[Element]) -> &[Element]
     ensures { map tree_of result.now ≡ group_inside (map tree_of elements.now) }
 {
-    match elements.first() {
+    match elements.get(0) {
+        Some(group) => inside_tree(group),
         None => &[],
-        Some(group) => match shape_of(group) {
-            Shape::Leaf(_) => &[],
-            Shape::Nest { inner, .. } => inner,
-        },
     }
 }
 

@@ -2,7 +2,7 @@
 ghost use Rattle.std.specs.Prelude.{◌≡◌, ◌++◌, ◌∷◌, [], IfOk, OnOk, map, option_copied, option_map};
 ghost use Rattle.swift_lexer.specs.Trees.{tree_of};
 ghost use Rattle.macro_decls.specs.Arguments.{argument_seen};
-ghost use Rattle.macro_decls.specs.Rules.{name_of, named, bare_rule, rule_with, called_name, called_rule, rule_of, rules_in, names_in, is_extension, is_stray, begins_names, begins_conformances, fits, conformances_listed, conformances_in};
+ghost use Rattle.macro_decls.specs.Rules.{name_of, named, bare_rule, rule_with, called_name, called_rule, rule_of, rules_in, names_in, is_extension, is_stray, begins_names, begins_conformances, any_stray, names_lists, conformances_lists, most_conformances, fits, conformances_listed, conformances_in};
 
 use crate::arguments::{Argument, Label, is_conformances, is_names};
 use crate::elements::{bytes_of, inside_of, joined, leaf_at, round_at, spells_at};
@@ -162,14 +162,48 @@ fn begins_conformances(argument: &Argument<'_>) -> bool
     argument.begins && is_conformances(argument.label)
 }
 
+fn any_stray(arguments: &[Argument<'_>]) -> bool
+    ensures { result ≡ any_stray (map argument_seen arguments.now) }
+{
+    'arguments: for argument in arguments {
+        if is_stray(argument) {
+            return true;
+        }
+    }
+    false
+}
+
+fn names_lists(arguments: &[Argument<'_>]) -> usize
+    ensures { result ≡ names_lists (map argument_seen arguments.now) }
+{
+    arguments
+        .iter()
+        .filter(|argument| begins_names(*argument))
+        .count()
+}
+
+fn conformances_lists(arguments: &[Argument<'_>]) -> usize
+    ensures { result ≡ conformances_lists (map argument_seen arguments.now) }
+{
+    arguments
+        .iter()
+        .filter(|argument| begins_conformances(*argument))
+        .count()
+}
+
+fn most_conformances(role: Option<Role>) -> usize
+    ensures { result ≡ most_conformances role }
+{
+    if is_extension(role) { 1 } else { 0 }
+}
+
 // The arguments behind the first are lists that the role takes, each at most once.
 fn fits(role: Option<Role>, arguments: &[Argument<'_>]) -> bool
     ensures { result ≡ fits role (map argument_seen arguments.now) }
 {
-    let most = if is_extension(role) { 1 } else { 0 };
-    !arguments.iter().any(|a| is_stray(a))
-        && arguments.iter().filter(|a| begins_names(*a)).count() <= 1
-        && arguments.iter().filter(|a| begins_conformances(*a)).count() <= most
+    !any_stray(arguments)
+        && names_lists(arguments) <= 1
+        && conformances_lists(arguments) <= most_conformances(role)
 }
 
 fn conformances_listed(

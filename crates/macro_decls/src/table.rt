@@ -1,12 +1,11 @@
 // The table of macros by their names.
-ghost use Rattle.std.specs.Prelude.{◌≡◌, ◌++◌, ◌<◌, ◌^◌, [], List, ℕ, IfOk, OnOk, filter_map, length, map, option_map};
+ghost use Rattle.std.specs.Prelude.{◌≡◌, ◌++◌, ◌<◌, ◌^◌, ◌∷◌, [], IfOk, None, OnOk, filter_map, length, map, option_map};
 ghost use Rattle.std.specs.List.{All};
 ghost use Rattle.std.specs.Option.{option_copied};
-ghost use Rattle.swift_base.specs.Names.{are_distinct};
 ghost use Rattle.swift_tree.specs.Outlines.{outline_of};
 ghost use Rattle.element_marks.specs.Answers.{Answers};
 ghost use Rattle.macro_decls.specs.Macros.{IsDeclReadable, declared, declared_by, declaration_named, macros, role_declared, role_declared_by};
-ghost use Rattle.macro_decls.specs.Tables.{AreNamed, declarations_in};
+ghost use Rattle.macro_decls.specs.Tables.{AreFresh, AreNamed, declarations_in};
 
 use crate::external::External;
 use crate::fault::{MacroFault, faults_of};
@@ -66,12 +65,7 @@ impl MacroTable {
         ensures macros { Answers (λ table. table) result (λ outcome. outcome ≡ macros (map (λ outline. outline_of outline.now) outlines.now)) }
         ensures readable { IfOk result (λ table. All IsDeclReadable table) }
     {
-        let written = written_of(alloc, outlines)?;
-        let faults = faults_of(alloc, &written)?;
-        if !faults.is_empty() {
-            return Err(Refusal::Fault(Listed::from_vec(faults)));
-        }
-        Ok(table_of(alloc, written)?)
+        macros(alloc, outlines)
     }
 
     /// The declaration of a name.
@@ -144,26 +138,60 @@ fn declared(alloc: Global, written: MacroWritten) -> Result<Option<MacroDecl>, A
     }))
 }
 
-fn put_declared(
+fn all_declared(alloc: Global, written: Vec<MacroWritten>) -> Result<Vec<MacroDecl>, AllocError>
+    ensures { IfOk result (λ declarations. declarations.items ≡ filter_map declared written.items) }
+{
+    let mut declarations = Vec::new(alloc);
+    'macros: for one in written {
+        if let Some(declaration) = declared(alloc, one)? {
+            declarations.push(declaration)?;
+        }
+    }
+    Ok(declarations)
+}
+
+fn put_entry(
     alloc: Global,
-    written: MacroWritten,
+    declaration: MacroDecl,
     entries: &mut IndexMap<Vec<u8>, MacroDecl>,
 ) -> Result<(), AllocError>
+    requires named { AreNamed entries.old.entries }
+    requires fresh { declaration_named declaration.name (declarations_in entries.old.entries) ≡ None }
+    ensures named { OnOk result (AreNamed entries.new.entries) }
+    ensures put { OnOk result (declarations_in entries.new.entries ≡ declarations_in entries.old.entries ++ declaration ∷ []) }
 {
-    if let Some(declaration) = declared(alloc, written)? {
-        let key = Vec::from_slice(alloc, declaration.name.bytes())?;
-        entries.insert(key, declaration)?;
-    }
+    let name = Vec::from_slice(alloc, declaration.name.bytes())?;
+    entries.insert(name, declaration)?;
     Ok(())
 }
 
-// The declarations of macros without fault.
-fn table_of(alloc: Global, written: Vec<MacroWritten>) -> Result<MacroTable, AllocError>
-    ensures { IfOk result (λ table. table ≡ filter_map declared written.items) }
+// Declarations of distinct names.
+fn table_of(alloc: Global, declarations: Vec<MacroDecl>) -> Result<MacroTable, AllocError>
+    requires { AreFresh [] declarations.items }
+    ensures { IfOk result (λ table. table ≡ declarations.items) }
 {
     let mut entries = IndexMap::new(alloc);
-    'macros: for one in written {
-        put_declared(alloc, one, &mut entries)?;
+    'declarations: for declaration in declarations {
+        put_entry(alloc, declaration, &mut entries)?;
     }
-    Ok(MacroTable { declarations: entries })
+    Ok(MacroTable {
+        declarations: entries,
+    })
+}
+
+#[tactic(auto, unfolding(crate::specs::Macros::macros))]
+fn macros(
+    alloc: Global,
+    outlines: &[&Outline],
+) -> Result<MacroTable, Refusal<Listed<MacroFault>>>
+    requires { length outlines.now < 2 ^ 32 }
+    ensures { Answers (λ table. table) result (λ outcome. outcome ≡ macros (map (λ outline. outline_of outline.now) outlines.now)) }
+{
+    let written = written_of(alloc, outlines)?;
+    let faults = faults_of(alloc, &written)?;
+    if !faults.is_empty() {
+        return Err(Refusal::Fault(Listed::from_vec(faults)));
+    }
+    let declarations = all_declared(alloc, written)?;
+    Ok(table_of(alloc, declarations)?)
 }

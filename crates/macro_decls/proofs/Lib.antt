@@ -1,0 +1,11 @@
+mod Accepted
+mod Boundaries
+mod Chains
+mod Cutting
+mod Entries
+mod Faulty
+mod Freshness
+mod Outlines
+mod Placed
+mod Readable
+mod Trees
