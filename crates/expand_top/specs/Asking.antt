@@ -1,5 +1,6 @@
 -- What is asked for a source. This project's own.
-use Rattle.std.specs.Prelude.{◌≡◌, ℕ, ◌<◌, nat_lt, if◌then◌else◌, Bool, true, false, Option, List, [], ◌∷◌, length, map}
+use Rattle.std.specs.Prelude.{◌≡◌, ℕ, ◌<◌, nat_lt, if◌then◌else◌, Bool, true, false, Option, List, [], ◌∷◌, count_by}
+use Rattle.std.specs.List.{flat_map}
 use Rattle.std.specs.Option.{option_map_or}
 use Rattle.std.specs.Str.{IsUtf8}
 use Rattle.swift_base.specs.Outside.{StarterSeen}
@@ -8,10 +9,11 @@ use Rattle.swift_tree.specs.Outlines.{OutlineSeen}
 use Rattle.plugin_messages.specs.declared.message.Outcome.{Outcome}
 use Rattle.macro_decls.specs.declared.table.MacroDecl.{MacroDecl}
 use Rattle.expansion_model.specs.Macros.{plugin_for}
-use Rattle.expansion_model.specs.Requests.{asks_in, request_of}
+use Rattle.expansion_model.specs.Requests.{request_of}
 use Rattle.expansion_model.specs.Sites.{sites_of}
 use Rattle.expansion_model.specs.declared.site.Ask.{Ask}
 use Rattle.expansion_model.specs.declared.site.Site.{Site}
+use Rattle.expansion_model.specs.declared.site.Site.TheVariants as site
 use Rattle.link_driver.specs.Links.{KeySteps, LinkSeen}
 use Rattle.link_driver.specs.LinkTable.{IsRunTable}
 use Rattle.link_driver.specs.Ran.{HasRun}
@@ -35,12 +37,25 @@ command_for plugins module_name = option_map_or (λ plugin. plugin.command) (plu
 abbrev pub wanted_for : List ℕ → List Plugin → List ℕ → Ask → Wanted
 wanted_for name plugins text ask = wanted_of (command_for plugins ask.target.module) (request_of name text ask)
 
+abbrev pub wanted_at : List ℕ → List Plugin → List ℕ → Site → List Wanted
+wanted_at name plugins text (site.Asks ask) = wanted_for name plugins text ask ∷ []
+wanted_at name plugins text (site.Fault fault) = []
+wanted_at name plugins text (site.NotBuilt at) = []
+wanted_at name plugins text (site.Attribute span) = []
+
+-- what sites ask for, in their order
 abbrev pub all_wanted : List ℕ → List Plugin → List ℕ → List Site → List Wanted
-all_wanted name plugins text sites = map (wanted_for name plugins text) (asks_in sites)
+all_wanted name plugins text sites = flat_map (wanted_at name plugins text) sites
+
+abbrev pub is_asked : Site → Bool
+is_asked (site.Asks ask) = true
+is_asked (site.Fault fault) = false
+is_asked (site.NotBuilt at) = false
+is_asked (site.Attribute span) = false
 
 -- more requests than are asked for one source
 unfoldable pub are_too_many : List Site → Bool
-are_too_many sites = nat_lt 65536 (length (asks_in sites))
+are_too_many sites = nat_lt 65536 (count_by is_asked sites)
 
 -- what is asked for a source of which these are the sites
 abbrev pub site_wanted : List ℕ → List Plugin → List ℕ → List Site → List Wanted

@@ -1,11 +1,12 @@
 -- The command that words mean. This project's own.
-use Rattle.std.specs.Prelude.{ℕ, ◌==◌, ◌&&◌, ◌||◌, not, nat_lt, Bool, true, false, if◌then◌else◌, Option, Some, None, option_map, option_and_then, List, [], ◌∷◌, length, codes}
+use Rattle.std.specs.Prelude.{ℕ, ◌==◌, ◌&&◌, ◌||◌, not, nat_lt, Bool, true, false, if◌then◌else◌, Option, Some, None, option_map, option_and_then, List, [], ◌∷◌, length, codes, string_bytes}
 use Rattle.std.specs.Char.{is_ascii_alphabetic, is_ascii_alphanumeric}
 use Rattle.std.specs.List.{list_all, position_or_len, before_first, after_first}
 use Rattle.std.specs.Str.{bytes_eq}
 use Rattle.swift_base.specs.declared.plugins.Plugin.{Plugin}
 use Rattle.expand_top.specs.declared.command.Command.{Command}
 use Rattle.expand_top.specs.declared.command.Command.TheVariants as command
+use Rattle.expand_top.specs.declared.command.Named as code
 
 -- a plain word that isn't empty; one that begins with `-` is plain only alone
 abbrev pub is_plain : List ℕ → Bool
@@ -50,6 +51,13 @@ pub record Named : Type 0 where
   pub macros : Option (List ℕ)
   pub source : List ℕ
   pub plugin : Option (List ℕ)
+
+abbrev pub named_seen : code.Named → Named
+named_seen named = record {
+  macros = option_map (λ w. string_bytes w.now) named.macros;
+  source = string_bytes named.source.now;
+  plugin = option_map (λ w. string_bytes w.now) named.plugin;
+}
 
 abbrev pub named_if : Bool → Named → Option Named
 named_if plain named = if plain then Some named else None

@@ -2,6 +2,7 @@ pub mod Command
 pub mod Lines
 pub mod Faults
 pub mod Meaning
+pub mod Means
 pub mod Splices
 pub mod Table
 pub mod Answer

@@ -1,9 +1,9 @@
 // The words of the command line.
-ghost use Rattle.std.specs.Prelude.{◌≡◌, ◌==◌, ◌∷◌, [], Some, None, IfOk, IfSome, position, string_bytes, option_map};
+ghost use Rattle.std.specs.Prelude.{◌≡◌, ◌==◌, ◌∷◌, [], Some, None, IfOk, IfSome, position, string_bytes, option_map, map};
 ghost use Rattle.std.specs.List.{All, list_all};
-ghost use Rattle.expand_top.specs.Site.{IsStartable};
+ghost use Rattle.expand_top.specs.Asking.{IsStartable};
 ghost use Rattle.expand_top.specs.declared.command.Command.TheVariants.{Expand};
-ghost use Rattle.expand_top.specs.Command.{plugin_of, plugins_of, begins_module, continues_module, is_module, is_plain, expands};
+ghost use Rattle.expand_top.specs.Command.{plugin_of, plugins_of, begins_module, continues_module, is_module, is_plain, source_words, macros_words, option_words, named_in, command_named, named_seen};
 
 use std::alloc::{AllocError, Global};
 use swift_base::{Plugin, Plugins, Text};
@@ -11,8 +11,12 @@ use swift_base::{Plugin, Plugins, Text};
 /// What the words ask for.
 #[derive(Drop)]
 pub enum Command {
-    /// Expand the file `source` with the plug-ins of these modules.
-    Expand { source: Text, plugins: Plugins },
+    /// Expand the file `source`, with the macros of the file `macros` too, by the plug-ins of these modules.
+    Expand {
+        source: Text,
+        macros: Option<Text>,
+        plugins: Plugins,
+    },
 }
 
 fn is_module(word: &[u8]) -> bool
@@ -98,22 +102,68 @@ fn plugins_of(alloc: Global, word: Option<&String>) -> Result<Option<Plugins>, A
     }
 }
 
-/// The plug-ins that the words `VERB SOURCE [MODULE=COMMAND]` name, where they are a command.
-pub fn named_plugins(
-    alloc: Global,
-    verb: &String,
-    source: &String,
-    plugin: Option<&String>,
-) -> Result<Option<Plugins>, AllocError>
-    ensures plugins { IfOk result (λ plugins. expands (string_bytes verb.now) (string_bytes source.now)
-        (plugins_of (option_map (λ w. string_bytes w.now) plugin.entry)) ≡ option_map (Expand (string_bytes source.now)) plugins) }
+/// The words of a command by what they name.
+#[derive(Clone, Copy)]
+pub struct Named<'a> {
+    pub macros: Option<&'a String>,
+    pub source: &'a String,
+    pub plugin: Option<&'a String>,
+}
+
+fn source_words<'a>(macros: Option<&'a String>, words: &'a [String]) -> Option<Named<'a>>
+    ensures { option_map named_seen result ≡ source_words (option_map (λ w. string_bytes w.now) macros) (map string_bytes words.now) }
+{
+    let (source, plugin) = match words {
+        [source] => (source, None),
+        [source, plugin] => (source, Some(plugin)),
+        _ => return None,
+    };
+    if !is_plain(source.as_bytes()) {
+        return None;
+    }
+    Some(Named {
+        macros,
+        source,
+        plugin,
+    })
+}
+
+fn macros_words(words: &[String]) -> Option<Named<'_>>
+    ensures { option_map named_seen result ≡ macros_words (map string_bytes words.now) }
+{
+    let (file, words) = words.split_first()?;
+    if !is_plain(file.as_bytes()) {
+        return None;
+    }
+    source_words(Some(file), words)
+}
+
+fn option_words(words: &[String]) -> Option<Named<'_>>
+    ensures { option_map named_seen result ≡ option_words (map string_bytes words.now) }
+{
+    let (first, others) = words.split_first()?;
+    if first.as_str() == "--macros" {
+        return macros_words(others);
+    }
+    source_words(None, words)
+}
+
+/// What the words `expand [--macros FILE] SOURCE [MODULE=COMMAND]` name.
+pub fn named_in(words: &[String]) -> Option<Named<'_>>
+    ensures { option_map named_seen result ≡ named_in (map string_bytes words.now) }
+{
+    let (verb, words) = words.split_first()?;
+    if verb.as_str() != "expand" {
+        return None;
+    }
+    option_words(words)
+}
+
+/// The plug-ins that a command names, where its word is one.
+pub fn named_plugins(alloc: Global, named: Named<'_>) -> Result<Option<Plugins>, AllocError>
+    ensures plugins { IfOk result (λ plugins. command_named (named_seen named)
+        ≡ option_map (Expand (named_seen named).source (named_seen named).macros) plugins) }
     ensures startable { IfOk result (λ plugins. IfSome plugins (All IsStartable)) }
 {
-    let Some(plugins) = plugins_of(alloc, plugin)? else {
-        return Ok(None);
-    };
-    if verb.as_str() != "expand" || !is_plain(source.as_bytes()) {
-        return Ok(None);
-    }
-    Ok(Some(plugins))
+    plugins_of(alloc, named.plugin)
 }

@@ -1,31 +1,37 @@
 // The top call.
-ghost use Rattle.std.specs.Prelude.{◌≡◌, ◌≢◌, ◌≤◌, ◌<◌, ◌^◌, ◌-◌, [], ◌∷◌, ◌++◌, ℕ, List, Option, Some, None, length, map, IfOk, IfSome, IfNone, OnOk, OnErr, string_bytes, option_map, codes};
-ghost use Rattle.swift_base.specs.Told.{Rose};
-ghost use Rattle.swift_base.specs.declared.plugins.Plugin.{Plugin};
-ghost use Rattle.expand_top.specs.declared.command.Command.TheVariants as Command;
-ghost use Rattle.expand_top.specs.Command.{command_of, expands, plugins_of};
-ghost use Rattle.expand_top.specs.Run.{IsDelivered, GainsAll, GainsFront, ReadsSource, IsExpansionAt, IsExpansionOf, IsExpansion, NothingAsked, CanExpand, IsRefused, IsUnwritten, Expands, asking_of, link_seen, unread, usage};
-ghost use Rattle.expand_top.specs.Promises.{AskedOnce, LinksServe, KeepsBytes, StatusHasCause};
-ghost use Rattle.expand_top.specs.Site.{HasPlugin, IsSiteReadable, IsStartable};
-ghost use Rattle.expand_top.specs.Starts.{Starts, StopsHaveCause, FailedStartsHaveCause};
+ghost use Rattle.std.specs.Prelude.{◌≡◌, ◌≤◌, ◌<◌, ◌^◌, ◌-◌, [], ◌∷◌, ℕ, List, Option, Some, None, length, map, IfOk, IfSome, OnOk, OnErr, string_bytes, option_map};
 ghost use Rattle.std.specs.List.{All};
-ghost use Rattle.expand_top.specs.Answer.{output_seen, refuses, refuses_at, not_built_at};
-ghost use Rattle.expand_top.specs.Faults.{fault_text, too_large};
-ghost use Rattle.expand_top.specs.Reading.{reading_of};
+ghost use Rattle.std.specs.Option.{option_copied};
+ghost use Rattle.swift_base.specs.Outside.{StarterSeen};
+ghost use Rattle.swift_base.specs.declared.plugins.Plugin.{Plugin};
+ghost use Rattle.swift_tree.specs.Outlines.{outline_of};
+ghost use Rattle.macro_decls.specs.Macros.{IsDeclReadable};
+ghost use Rattle.expansion_model.specs.Readable.{IsSiteReadable};
+ghost use Rattle.expansion_model.specs.Spans.{LieApart, spans_of};
+ghost use Rattle.link_driver.specs.Links.{link_seen};
+ghost use Rattle.expand_top.specs.declared.command.Command.TheVariants as Command;
+ghost use Rattle.expand_top.specs.Command.{named_in, named_seen, command_named, command_of};
+ghost use Rattle.expand_top.specs.Asking.{IsStartable, IsExpansion, Asks, IsSiteOutput, IsTableAnswer, are_too_many, site_wanted, asking_of};
+ghost use Rattle.expand_top.specs.Lines.{output_seen};
+ghost use Rattle.expand_top.specs.Meaning.{Means, meaning_of};
+ghost use Rattle.expand_top.specs.Means.{meaning_seen, IsSound, IsSoundSource};
+ghost use Rattle.expand_top.specs.Run.{IsDelivered, GainsAll, GainsFront, ReadsSource, ReadsInputs, IsShort, IsRefused, IsUnwritten, Expands, usage};
+ghost use Rattle.expand_top.specs.Promises.{AskedOnce, LinksServe, Starts, StopsHaveCause, FailedStartsHaveCause, KeepsBytes, StatusHasCause};
 
-use crate::answer::{not_built_at, site_output};
-use crate::asking::ask_at;
-use crate::command::named_plugins;
-use crate::declarations::Declaration;
-use crate::ended::{Ended, SourceRead};
-use crate::faults::fault_text;
-use crate::link::{Closed, Unstarted};
-use crate::reading::{Reading, reading_of};
-use crate::report::{Output, refuses, refuses_at};
-use crate::site::{Site, site_of};
-use decl_parser::{ParseFault, ParseKind};
+use crate::answer::{answer, reports_of};
+use crate::asking::{are_too_many, ask_nothing, ask_sites};
+use crate::command::{Named, named_in, named_plugins};
+use crate::ended::{Ended, Inputs, SourceRead};
+use crate::faults::TOO_MANY_REQUESTS;
+use crate::meaning::{Meaning, meaning_of};
+use crate::report::{Output, refuses};
+use crate::table::Table;
+use expansion_model::{Site, sites, sites_lie_apart};
+use link_driver::{Closed, Ran, Unstarted, run_table};
+use macro_decls::MacroTable;
 use std::alloc::{AllocError, Global};
 use swift_base::{FileFault, Files, Plugin, Plugins, Sink, Starter, Text, WriteFault, write_all};
+use swift_tree::Outline;
 
 /// What is written for words that are no command. It names what is still to come, too.
 pub const USAGE: &[u8] = b"\
@@ -71,6 +77,32 @@ fn read_source<F: Files>(alloc: Global, files: &mut F, name: &str) -> Result<Sou
     }
 }
 
+// The file of macros is read first, where one is named; without it the source isn't read.
+fn read_inputs<F: Files>(
+    alloc: Global,
+    files: &mut F,
+    macros: Option<&str>,
+    name: &str,
+) -> Result<Inputs, AllocError>
+    ensures { IfOk result (ReadsInputs (F.seen files.old) (F.seen files.new) (option_copied macros.entry) name.now) }
+{
+    let macros = match macros {
+        Some(file) => read_source(alloc, files, file)?,
+        None => {
+            let source = read_source(alloc, files, name)?;
+            return Ok(Inputs {
+                macros: SourceRead::Nothing,
+                source,
+            });
+        }
+    };
+    let source = match macros {
+        SourceRead::Bytes(_) => read_source(alloc, files, name)?,
+        _ => SourceRead::Nothing,
+    };
+    Ok(Inputs { macros, source })
+}
+
 // What is handed back and written.
 #[derive(Drop)]
 struct Expansion<W: Drop, R: Drop> {
@@ -79,156 +111,139 @@ struct Expansion<W: Drop, R: Drop> {
     output: Output,
 }
 
-fn without_asking<W: Drop, R: Drop>(alloc: Global, output: Output) -> Expansion<W, R>
-    ensures links { result.links.items ≡ [] }
-    ensures unstarted { result.unstarted.items ≡ [] }
+fn expansion<W: Drop, R: Drop>(ran: Ran<W, R>, output: Output) -> Expansion<W, R>
+    ensures links { result.links ≡ ran.links }
+    ensures unstarted { result.unstarted ≡ ran.unstarted }
     ensures output { result.output ≡ output }
 {
+    let Ran { links, unstarted } = ran;
     Expansion {
-        links: Vec::new(alloc),
-        unstarted: Vec::new(alloc),
-        output,
-    }
-}
-
-// The line of a text's first fault.
-fn refused(alloc: Global, name: &str, text: &[u8], fault: ParseFault) -> Result<Output, AllocError>
-    requires { length text.now < 2 ^ 32 - 1 }
-    ensures { IfOk result (λ output. output_seen output ≡ refuses_at name.now text.now fault.at (fault_text fault.kind)) }
-{
-    refuses_at(
-        alloc,
-        name.as_bytes(),
-        text,
-        fault.at,
-        fault_text(fault.kind),
-    )
-}
-
-fn too_large(alloc: Global, name: &str) -> Result<Output, AllocError>
-    ensures { IfOk result (λ output. output_seen output ≡ refuses name.now 1 1 too_large) }
-{
-    let text = fault_text(ParseKind::SourceTooLarge);
-    refuses(alloc, name.as_bytes(), 1, 1, text)
-}
-
-fn unread(alloc: Global, name: &str) -> Result<Output, AllocError>
-    ensures { IfOk result (λ output. output_seen output ≡ unread name.now) }
-{
-    let mut err = Vec::from_slice(alloc, name.as_bytes())?;
-    err.extend_from_slice(b": the file could not be read\n")?;
-    Ok(Output {
-        out: Vec::new(alloc),
-        err,
-        status: 3,
-    })
-}
-
-fn expand_site<P: Starter>(
-    alloc: Global,
-    starter: &mut P,
-    name: &str,
-    plugins: &[Plugin],
-    text: &[u8],
-    declarations: &[Declaration],
-    site: Site,
-) -> Result<Expansion<P::Writer, P::Reader>, AllocError>
-    requires short { length text.now < 2 ^ 32 - 1 }
-    requires commands { All IsStartable plugins.now }
-    requires served { HasPlugin text.now plugins.now site }
-    requires readable { IsSiteReadable text.now site }
-    ensures { IfOk result (λ e. IsExpansionAt name.now plugins.now text.now declarations.now site
-        (asking_of (map (link_seen P.Writer.seen P.Reader.seen) e.links.items) e.unstarted.items (P.seen starter.old) (P.seen starter.new)) (output_seen e.output)) }
-{
-    let asked = ask_at(alloc, starter, name, plugins, text, site)?;
-    let outcome = asked.outcome;
-    let output = site_output(alloc, name.as_bytes(), text, declarations, site, outcome)?;
-    let (links, unstarted) = (asked.links, asked.unstarted);
-    Ok(Expansion {
         links,
         unstarted,
         output,
-    })
-}
-
-// What a source's text asks for and what is written for it.
-fn expand_text<P: Starter>(
-    alloc: Global,
-    starter: &mut P,
-    name: &str,
-    plugins: &Plugins,
-    text: &[u8],
-) -> Result<Expansion<P::Writer, P::Reader>, AllocError>
-    requires short { length text.now ≤ 4194304 }
-    requires commands { All IsStartable plugins.now }
-    ensures { IfOk result (λ e. IsExpansionOf name.now plugins.now text.now (reading_of text.now)
-        (asking_of (map (link_seen P.Writer.seen P.Reader.seen) e.links.items) e.unstarted.items (P.seen starter.old) (P.seen starter.new)) (output_seen e.output)) }
-{
-    match reading_of(alloc, text)? {
-        Reading::Refused(fault) => Ok(without_asking(alloc, refused(alloc, name, text, fault)?)),
-        Reading::NotBuilt(at) => {
-            let output = not_built_at(alloc, name.as_bytes(), text, at)?;
-            Ok(without_asking(alloc, output))
-        }
-        Reading::Built(form) => {
-            let site = site_of(text, plugins.list(), &form);
-            let declarations = form.declarations.items();
-            expand_site(
-                alloc,
-                starter,
-                name,
-                plugins.list(),
-                text,
-                declarations,
-                site,
-            )
-        }
     }
 }
 
-// What is asked and written, by how the source was read.
-fn expand_read<P: Starter>(
+// What is written for the sites of a source, by the table of what was asked.
+fn site_output<P: Starter>(
+    alloc: Global,
+    name: &[u8],
+    source: &Outline,
+    macros: &MacroTable,
+    sites: &[Site],
+    ran: &Ran<P::Writer, P::Reader>,
+) -> Result<Output, AllocError>
+    requires short { length source.now.text < 2 ^ 32 - 1 }
+    requires apart { LieApart 0 (length source.now.text) (spans_of sites.now) }
+    ensures { (before after : StarterSeen) → IfOk result (λ output. IsTableAnswer name.now source.now.text macros.now sites.now
+        (asking_of (map (link_seen P.Writer.seen P.Reader.seen) ran.now.links.items) ran.now.unstarted.items before after) (output_seen output)) }
+{
+    let pairs = run_table(alloc, &ran.links, &ran.unstarted)?;
+    let table = Table::from_pairs(alloc, pairs)?;
+    let text = source.text.bytes();
+    let reports = reports_of(alloc, name, text, macros, &table, sites)?;
+    answer(alloc, name, text, reports)
+}
+
+fn expand_sites<P: Starter>(
     alloc: Global,
     starter: &mut P,
-    name: &str,
-    plugins: &Plugins,
-    read: &SourceRead,
+    name: &[u8],
+    plugins: &[Plugin],
+    source: &Outline,
+    macros: &MacroTable,
+    sites: &[Site],
 ) -> Result<Expansion<P::Writer, P::Reader>, AllocError>
-    requires can { CanExpand read.now }
+    requires short { length source.now.text < 2 ^ 32 - 1 }
     requires commands { All IsStartable plugins.now }
-    ensures { IfOk result (λ e. IsExpansion name.now plugins.now read.now
+    requires readable { All (IsSiteReadable source.now.text) sites.now }
+    requires apart { LieApart 0 (length source.now.text) (spans_of sites.now) }
+    ensures asks { IfOk result (λ e. Asks (site_wanted name.now plugins.now source.now.text sites.now)
+        (asking_of (map (link_seen P.Writer.seen P.Reader.seen) e.links.items) e.unstarted.items (P.seen starter.old) (P.seen starter.new))) }
+    ensures writes { IfOk result (λ e. IsSiteOutput (are_too_many sites.now) name.now source.now.text macros.now sites.now
         (asking_of (map (link_seen P.Writer.seen P.Reader.seen) e.links.items) e.unstarted.items (P.seen starter.old) (P.seen starter.new)) (output_seen e.output)) }
 {
-    match read {
-        SourceRead::Nothing => unreachable!(),
-        SourceRead::Failed => Ok(without_asking(alloc, unread(alloc, name)?)),
-        SourceRead::Larger => Ok(without_asking(alloc, too_large(alloc, name)?)),
-        SourceRead::Bytes(text) => { expand_text(alloc, starter, name, plugins, text.bytes()) }
+    if are_too_many(sites) {
+        let output = refuses(alloc, name, 1, 1, TOO_MANY_REQUESTS)?;
+        return Ok(expansion(ask_nothing(alloc, starter)?, output));
+    }
+    let ran = ask_sites(alloc, starter, name, plugins, source.text.bytes(), sites)?;
+    let output = site_output::<P>(alloc, name, source, macros, sites, &ran)?;
+    Ok(expansion(ran, output))
+}
+
+fn expand_source<P: Starter>(
+    alloc: Global,
+    starter: &mut P,
+    name: &[u8],
+    plugins: &Plugins,
+    source: &Outline,
+    macros: &MacroTable,
+) -> Result<Expansion<P::Writer, P::Reader>, AllocError>
+    requires sound { IsSoundSource (outline_of source.now) }
+    requires readable { All IsDeclReadable macros.now }
+    requires commands { All IsStartable plugins.now }
+    ensures { IfOk result (λ e. IsExpansion name.now plugins.now (Means (outline_of source.now) macros.now)
+        (asking_of (map (link_seen P.Writer.seen P.Reader.seen) e.links.items) e.unstarted.items (P.seen starter.old) (P.seen starter.new)) (output_seen e.output)) }
+{
+    sites_lie_apart();
+    let sites = sites(alloc, source, macros, plugins)?;
+    expand_sites(alloc, starter, name, plugins.list(), source, macros, &sites)
+}
+
+// What is asked and written for what the files mean.
+fn expand_meaning<P: Starter>(
+    alloc: Global,
+    starter: &mut P,
+    name: &[u8],
+    plugins: &Plugins,
+    means: Meaning,
+) -> Result<Expansion<P::Writer, P::Reader>, AllocError>
+    requires sound { IsSound means }
+    requires commands { All IsStartable plugins.now }
+    ensures { IfOk result (λ e. IsExpansion name.now plugins.now (meaning_seen means)
+        (asking_of (map (link_seen P.Writer.seen P.Reader.seen) e.links.items) e.unstarted.items (P.seen starter.old) (P.seen starter.new)) (output_seen e.output)) }
+{
+    match means {
+        Meaning::Refused(output) => Ok(expansion(ask_nothing(alloc, starter)?, output)),
+        Meaning::Means(source, macros) => {
+            expand_source(alloc, starter, name, plugins, &source, &macros)
+        }
     }
 }
 
 // A command as far as nothing is written yet.
 #[derive(Drop)]
 struct Done<W: Drop, R: Drop> {
-    read: SourceRead,
+    read: Inputs,
     expansion: Expansion<W, R>,
 }
 
 fn expand<F: Files, P: Starter>(
     alloc: Global,
+    macros: Option<&str>,
     name: &str,
     plugins: &Plugins,
     files: &mut F,
     starter: &mut P,
 ) -> Result<Done<P::Writer, P::Reader>, AllocError>
     requires { All IsStartable plugins.now }
-    ensures read { IfOk result (λ d. ReadsSource (F.seen files.old) (F.seen files.new) name.now d.read) }
-    ensures expansion { IfOk result (λ d. IsExpansion name.now plugins.now d.read
+    ensures read { IfOk result (λ d. ReadsInputs (F.seen files.old) (F.seen files.new) (option_copied macros.entry) name.now d.read) }
+    ensures expansion { IfOk result (λ d. IsExpansion name.now plugins.now (meaning_of (option_copied macros.entry) name.now d.read)
         (asking_of (map (link_seen P.Writer.seen P.Reader.seen) d.expansion.links.items) d.expansion.unstarted.items (P.seen starter.old) (P.seen starter.new)) (output_seen d.expansion.output)) }
 {
-    let read = read_source(alloc, files, name)?;
-    let expansion = expand_read(alloc, starter, name, plugins, &read)?;
+    let read = read_inputs(alloc, files, macros, name)?;
+    let file = macros.map(|file| file.as_bytes());
+    let means = meaning_of(alloc, file, name.as_bytes(), &read)?;
+    let expansion = expand_meaning(alloc, starter, name.as_bytes(), plugins, means)?;
     Ok(Done { read, expansion })
+}
+
+fn nothing_read() -> Inputs {
+    Inputs {
+        macros: SourceRead::Nothing,
+        source: SourceRead::Nothing,
+    }
 }
 
 fn usage(alloc: Global) -> Result<Output, AllocError>
@@ -248,7 +263,7 @@ fn out_of_memory<W: Drop, R: Drop>(alloc: Global) -> Ended<W, R>
 {
     Ended {
         status: 5,
-        read: SourceRead::Nothing,
+        read: nothing_read(),
         links: Vec::new(alloc),
         unstarted: Vec::new(alloc),
     }
@@ -269,7 +284,7 @@ fn refuse<W: Drop, R: Drop, O: Sink, E: Sink>(
     let status = deliver(out, err, &output);
     Ended {
         status,
-        read: SourceRead::Nothing,
+        read: nothing_read(),
         links: Vec::new(alloc),
         unstarted: Vec::new(alloc),
     }
@@ -277,6 +292,7 @@ fn refuse<W: Drop, R: Drop, O: Sink, E: Sink>(
 
 fn run_expand<F: Files, O: Sink, E: Sink, P: Starter>(
     alloc: Global,
+    macros: Option<&str>,
     name: &str,
     plugins: &Plugins,
     files: &mut F,
@@ -286,11 +302,11 @@ fn run_expand<F: Files, O: Sink, E: Sink, P: Starter>(
 ) -> Ended<P::Writer, P::Reader>
     requires { All IsStartable plugins.now }
     ensures memory { result.status ≡ 5 → IsUnwritten (O.seen out.old) (O.seen out.new) (E.seen err.old) (E.seen err.new) }
-    ensures expanded { (result.status ≡ 5 → ⊥) → Expands name.now plugins.now (F.seen files.old) (F.seen files.new)
+    ensures expanded { (result.status ≡ 5 → ⊥) → Expands (option_copied macros.entry) name.now plugins.now (F.seen files.old) (F.seen files.new)
         (O.seen out.old) (O.seen out.new) (E.seen err.old) (E.seen err.new) result.status result.read
         (asking_of (map (link_seen P.Writer.seen P.Reader.seen) result.links.items) result.unstarted.items (P.seen starter.old) (P.seen starter.new)) }
 {
-    let Ok(done) = expand(alloc, name, plugins, files, starter) else {
+    let Ok(done) = expand(alloc, macros, name, plugins, files, starter) else {
         return out_of_memory(alloc);
     };
     let status = deliver(out, err, &done.expansion.output);
@@ -302,38 +318,36 @@ fn run_expand<F: Files, O: Sink, E: Sink, P: Starter>(
     }
 }
 
-fn run_words<F: Files, O: Sink, E: Sink, P: Starter>(
+fn run_named<F: Files, O: Sink, E: Sink, P: Starter>(
     alloc: Global,
-    verb: &String,
-    source: &String,
-    plugin: Option<&String>,
+    named: Named<'_>,
     files: &mut F,
     out: &mut O,
     err: &mut E,
     starter: &mut P,
 ) -> Ended<P::Writer, P::Reader>
-    ensures refused { expands (string_bytes verb.now) (string_bytes source.now) (plugins_of (option_map (λ w. string_bytes w.now) plugin.entry)) ≡ None
+    ensures refused { command_named (named_seen named) ≡ None
         → IsRefused (O.seen out.old) (O.seen out.new) (E.seen err.old) (E.seen err.new) result.status result.links.items result.unstarted.items }
-    ensures untouched { expands (string_bytes verb.now) (string_bytes source.now) (plugins_of (option_map (λ w. string_bytes w.now) plugin.entry)) ≡ None
-        → (files.new ≡ files.old) × (starter.new ≡ starter.old) }
-    ensures expanded { (name : List ℕ) (plugins : List Plugin)
-        → expands (string_bytes verb.now) (string_bytes source.now) (plugins_of (option_map (λ w. string_bytes w.now) plugin.entry)) ≡ Some (Command.Expand name plugins)
-        → (result.status ≡ 5 → ⊥) → Expands name plugins (F.seen files.old) (F.seen files.new)
+    ensures untouched { command_named (named_seen named) ≡ None → (files.new ≡ files.old) × (starter.new ≡ starter.old) }
+    ensures expanded { (name : List ℕ) (macros : Option (List ℕ)) (plugins : List Plugin) → command_named (named_seen named) ≡ Some (Command.Expand name macros plugins)
+        → (result.status ≡ 5 → ⊥) → Expands macros name plugins (F.seen files.old) (F.seen files.new)
         (O.seen out.old) (O.seen out.new) (E.seen err.old) (E.seen err.new) result.status result.read
         (asking_of (map (link_seen P.Writer.seen P.Reader.seen) result.links.items) result.unstarted.items (P.seen starter.old) (P.seen starter.new)) }
     ensures memory { result.status ≡ 5 → IsUnwritten (O.seen out.old) (O.seen out.new) (E.seen err.old) (E.seen err.new) }
 {
-    let Ok(named) = named_plugins(alloc, verb, source, plugin) else {
+    let Ok(plugins) = named_plugins(alloc, named) else {
         return out_of_memory(alloc);
     };
-    let Some(plugins) = named else {
+    let Some(plugins) = plugins else {
         return refuse(alloc, out, err);
     };
-    run_expand(alloc, source.as_str(), &plugins, files, out, err, starter)
+    let macros = named.macros.map(|file| file.as_str());
+    let name = named.source.as_str();
+    run_expand(alloc, macros, name, &plugins, files, out, err, starter)
 }
 
-/// Does what the words after the program's name ask for: `expand SOURCE [MODULE=COMMAND]`.
-/// The status is 0 where the file was written, 1 for faults, 2 for words that are no command, 3 where the source
+/// Does what the words after the program's name ask for: `expand [--macros FILE] SOURCE [MODULE=COMMAND]`.
+/// The status is 0 where the file was written, 1 for faults, 2 for words that are no command, 3 where a file
 /// could not be read, 4 where a write failed, and 5 where memory was wanting.
 pub fn run<T: AllocGlobal + Copy + Drop, F: Files, O: Sink, E: Sink, P: Starter>(
     rt: T,
@@ -348,30 +362,30 @@ pub fn run<T: AllocGlobal + Copy + Drop, F: Files, O: Sink, E: Sink, P: Starter>
         → IsRefused (O.seen out.old) (O.seen out.new) (E.seen err.old) (E.seen err.new) result.status result.links.items result.unstarted.items }
     ensures untouched { command_of (map string_bytes words.now) ≡ None → (files.new ≡ files.old) × (starter.new ≡ starter.old) }
 
-    // What the two streams gain is the output of the source and of what was asked; the source was read as it says.
-    ensures output { (name : List ℕ) (plugins : List Plugin) → command_of (map string_bytes words.now) ≡ Some (Command.Expand name plugins)
-        → (result.status ≡ 5 → ⊥) → Expands name plugins (F.seen files.old) (F.seen files.new)
+    // What the two streams gain is the output of the files and of what was asked; the files were read as it says.
+    ensures output { (name : List ℕ) (macros : Option (List ℕ)) (plugins : List Plugin) → command_of (map string_bytes words.now) ≡ Some (Command.Expand name macros plugins)
+        → (result.status ≡ 5 → ⊥) → Expands macros name plugins (F.seen files.old) (F.seen files.new)
         (O.seen out.old) (O.seen out.new) (E.seen err.old) (E.seen err.new) result.status result.read
         (asking_of (map (link_seen P.Writer.seen P.Reader.seen) result.links.items) result.unstarted.items (P.seen starter.old) (P.seen starter.new)) }
-    ensures asked_once { (name : List ℕ) (plugins : List Plugin) → command_of (map string_bytes words.now) ≡ Some (Command.Expand name plugins)
-        → (result.status ≡ 5 → ⊥) → AskedOnce plugins result.read
+    ensures asked_once { (name : List ℕ) (macros : Option (List ℕ)) (plugins : List Plugin) → command_of (map string_bytes words.now) ≡ Some (Command.Expand name macros plugins)
+        → (result.status ≡ 5 → ⊥) → AskedOnce macros name plugins result.read
         (asking_of (map (link_seen P.Writer.seen P.Reader.seen) result.links.items) result.unstarted.items (P.seen starter.old) (P.seen starter.new)) }
-    ensures links_serve { (name : List ℕ) (plugins : List Plugin) → command_of (map string_bytes words.now) ≡ Some (Command.Expand name plugins)
-        → (result.status ≡ 5 → ⊥) → LinksServe name plugins result.read
+    ensures links_serve { (name : List ℕ) (macros : Option (List ℕ)) (plugins : List Plugin) → command_of (map string_bytes words.now) ≡ Some (Command.Expand name macros plugins)
+        → (result.status ≡ 5 → ⊥) → LinksServe macros name plugins result.read
         (asking_of (map (link_seen P.Writer.seen P.Reader.seen) result.links.items) result.unstarted.items (P.seen starter.old) (P.seen starter.new)) }
     // What was read and started is what the starter tells, and each stop and each failed start has its cause.
-    ensures started { (name : List ℕ) (plugins : List Plugin) → command_of (map string_bytes words.now) ≡ Some (Command.Expand name plugins)
-        → (result.status ≡ 5 → ⊥) → Starts plugins result.read
+    ensures started { (name : List ℕ) (macros : Option (List ℕ)) (plugins : List Plugin) → command_of (map string_bytes words.now) ≡ Some (Command.Expand name macros plugins)
+        → (result.status ≡ 5 → ⊥) → Starts macros name plugins result.read
         (asking_of (map (link_seen P.Writer.seen P.Reader.seen) result.links.items) result.unstarted.items (P.seen starter.old) (P.seen starter.new)) }
-    ensures stops { (name : List ℕ) (plugins : List Plugin) → command_of (map string_bytes words.now) ≡ Some (Command.Expand name plugins)
+    ensures stops { (name : List ℕ) (macros : Option (List ℕ)) (plugins : List Plugin) → command_of (map string_bytes words.now) ≡ Some (Command.Expand name macros plugins)
         → (result.status ≡ 5 → ⊥) → StopsHaveCause (map (link_seen P.Writer.seen P.Reader.seen) result.links.items) }
-    ensures failed_starts { (name : List ℕ) (plugins : List Plugin) → command_of (map string_bytes words.now) ≡ Some (Command.Expand name plugins)
+    ensures failed_starts { (name : List ℕ) (macros : Option (List ℕ)) (plugins : List Plugin) → command_of (map string_bytes words.now) ≡ Some (Command.Expand name macros plugins)
         → (result.status ≡ 5 → ⊥) → FailedStartsHaveCause
         (asking_of (map (link_seen P.Writer.seen P.Reader.seen) result.links.items) result.unstarted.items (P.seen starter.old) (P.seen starter.new)) }
 
-    ensures kept { (name : List ℕ) (plugins : List Plugin) → command_of (map string_bytes words.now) ≡ Some (Command.Expand name plugins)
-        → (result.status ≡ 5 → ⊥) → KeepsBytes plugins result.read result.status (O.seen out.old) (O.seen out.new) }
-    ensures status { (name : List ℕ) (plugins : List Plugin) → command_of (map string_bytes words.now) ≡ Some (Command.Expand name plugins)
+    ensures kept { (name : List ℕ) (macros : Option (List ℕ)) (plugins : List Plugin) → command_of (map string_bytes words.now) ≡ Some (Command.Expand name macros plugins)
+        → (result.status ≡ 5 → ⊥) → KeepsBytes macros name plugins result.read result.status (O.seen out.old) (O.seen out.new) }
+    ensures status { (name : List ℕ) (macros : Option (List ℕ)) (plugins : List Plugin) → command_of (map string_bytes words.now) ≡ Some (Command.Expand name macros plugins)
         → (result.status ≡ 5 → ⊥) → StatusHasCause result.status (F.seen files.old) (F.seen files.new)
         (O.seen out.old) (O.seen out.new) (E.seen err.old) (E.seen err.new) }
 
@@ -379,21 +393,8 @@ pub fn run<T: AllocGlobal + Copy + Drop, F: Files, O: Sink, E: Sink, P: Starter>
     ensures memory { result.status ≡ 5 → IsUnwritten (O.seen out.old) (O.seen out.new) (E.seen err.old) (E.seen err.new) }
 {
     let alloc = rt.alloc();
-    let Some((verb, source, plugin)) = three_words(words) else {
+    let Some(named) = named_in(words) else {
         return refuse(alloc, out, err);
     };
-    run_words(alloc, verb, source, plugin, files, out, err, starter)
-}
-
-// Two words, or three.
-fn three_words(words: &[String]) -> Option<(&String, &String, Option<&String>)>
-    ensures none { IfNone result (command_of (map string_bytes words.now) ≡ None) }
-    ensures some { IfSome result (λ w. command_of (map string_bytes words.now)
-        ≡ expands (string_bytes w.0.now) (string_bytes w.1.now) (plugins_of (option_map (λ p. string_bytes p.now) w.2))) }
-{
-    match words {
-        [verb, source] => Some((verb, source, None)),
-        [verb, source, plugin] => Some((verb, source, Some(plugin))),
-        _ => None,
-    }
+    run_named(alloc, named, files, out, err, starter)
 }

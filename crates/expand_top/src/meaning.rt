@@ -1,14 +1,13 @@
 // What the files of a command mean: a source with its macros, or a refusal.
-ghost use Rattle.std.specs.Prelude.{◌≡◌, ◌++◌, ◌∷◌, [], ◌<◌, ◌≤◌, ◌-◌, ◌^◌, IfOk, length, map, option_map, Some, None};
-ghost use Rattle.std.specs.List.{All, flat_map};
+ghost use Rattle.std.specs.Prelude.{◌≡◌, ◌++◌, ◌<◌, ◌-◌, ◌^◌, IfOk, length, map, option_map};
+ghost use Rattle.std.specs.Option.{option_copied};
 ghost use Rattle.swift_tree.specs.Outlines.{outline_of};
-ghost use Rattle.macro_decls.specs.Macros.{IsDeclReadable};
-ghost use Rattle.expansion_model.specs.Readable.{IsSource};
+ghost use Rattle.macro_decls.specs.Macros.{macros};
 ghost use Rattle.expansion_model.specs.Requests.{place_of, IsPlaceIn};
 ghost use Rattle.expand_top.specs.Faults.{fault_text, too_large};
-ghost use Rattle.expand_top.specs.Lines.{output_seen};
-ghost use Rattle.expand_top.specs.Meaning.{Meaning as Seen, named_seen, fault_line, fault_lines, table_meaning, by_outline, source_meaning, text_meaning, by_source, by_file, meaning_of};
-ghost use Rattle.expand_top.specs.Means.{meaning_seen, IsSound, AreShort};
+ghost use Rattle.expand_top.specs.Lines.{refuses, refuses_at, unread};
+ghost use Rattle.expand_top.specs.Meaning.{Refused, named_seen, by_table, fault_line, fault_lines, table_meaning, by_outline, source_meaning, text_meaning, by_source, by_file, meaning_of};
+ghost use Rattle.expand_top.specs.Means.{meaning_seen, declared_seen, option_list, IsAt, IsShortText, AreShort, IsSoundSource, IsSound, AreReadable};
 ghost use Rattle.expand_top.specs.Run.{IsShort};
 
 use crate::ended::{Inputs, SourceRead};
@@ -50,4 +49,233 @@ fn place_in(text: &[u8], from: At, fault: &MacroFault) -> Place
         FIRST_PLACE
     };
     place_from(text, start, fault.at)
+}
+
+fn put_fault(
+    alloc: Global,
+    files: &[NamedText<'_>],
+    from: At,
+    fault: &MacroFault,
+    lines: &mut Vec<u8>,
+) -> Result<At, AllocError>
+    requires short { AreShort (map named_seen files.now) }
+    requires from { IsAt (map named_seen files.now) from }
+    ensures lines { IfOk result (λ _. lines.new.items ≡ lines.old.items ++ fault_line (map named_seen files.now) fault.now) }
+    ensures at { IfOk result (IsAt (map named_seen files.now)) }
+{
+    let Some(named) = files.get(fault.outline as usize) else {
+        return Ok(from);
+    };
+    let place = place_in(named.text, from, fault);
+    let message = macro_fault_text(alloc, fault.kind, fault.name.bytes())?;
+    let line = error_at(alloc, named.name, named.text, place, &message)?;
+    lines.extend_from_slice(&line)?;
+    Ok(At {
+        outline: fault.outline,
+        place,
+    })
+}
+
+// The lines of the faults of declarations.
+fn fault_lines(
+    alloc: Global,
+    files: &[NamedText<'_>],
+    found: &[MacroFault],
+) -> Result<Vec<u8>, AllocError>
+    requires { AreShort (map named_seen files.now) }
+    ensures { IfOk result (λ lines. lines.items ≡ fault_lines (map named_seen files.now) found.now) }
+{
+    let mut lines = Vec::new(alloc);
+    let mut at = At {
+        outline: 0,
+        place: FIRST_PLACE,
+    };
+    'faults: for fault in found {
+        at = put_fault(alloc, files, at, fault, &mut lines)?;
+    }
+    Ok(lines)
+}
+
+// The macros of outlines, or what is written where a declaration is faulty.
+#[derive(Drop)]
+enum Declared {
+    Table(MacroTable),
+    Refused(Output),
+}
+
+fn declared(
+    alloc: Global,
+    files: &[NamedText<'_>],
+    outlines: &[&Outline],
+) -> Result<Declared, AllocError>
+    requires short { AreShort (map named_seen files.now) }
+    requires few { length outlines.now < 2 ^ 32 }
+    ensures meaning { IfOk result (λ d. (source : _) → declared_seen source d ≡ by_table (map named_seen files.now) source (macros (map (λ o. outline_of o.now) outlines.now))) }
+    ensures readable { IfOk result AreReadable }
+{
+    match MacroTable::from_outlines(alloc, outlines) {
+        Ok(table) => Ok(Declared::Table(table)),
+        Err(Refusal::Memory) => Err(AllocError),
+        Err(Refusal::Fault(found)) => {
+            let lines = fault_lines(alloc, files, found.items())?;
+            Ok(Declared::Refused(faults(alloc, lines)))
+        }
+    }
+}
+
+fn refused(alloc: Global, named: NamedText<'_>, fault: ParseFault) -> Result<Meaning, AllocError>
+    requires { IsShortText (named_seen named) }
+    ensures { IfOk result (λ m. meaning_seen m ≡ Refused (refuses_at (named_seen named).name (named_seen named).text fault.at (fault_text fault.kind))) }
+    ensures sound { IfOk result IsSound }
+{
+    let message = fault_text(fault.kind);
+    let output = refuses_at(alloc, named.name, named.text, fault.at, message)?;
+    Ok(Meaning::Refused(output))
+}
+
+// A source that was read, behind the macros file where there is one.
+#[tactic(auto, unfolding(crate::specs::Meaning::table_meaning))]
+fn table_meaning(
+    alloc: Global,
+    files: &[NamedText<'_>],
+    before: &[&Outline],
+    source: Outline,
+) -> Result<Meaning, AllocError>
+    requires short { AreShort (map named_seen files.now) }
+    requires few { length before.now < 2 }
+    requires sound { IsSoundSource (outline_of source) }
+    ensures meaning { IfOk result (λ m. meaning_seen m ≡ table_meaning (map named_seen files.now) (map (λ o. outline_of o.now) before.now) (outline_of source)) }
+    ensures sound { IfOk result IsSound }
+{
+    let mut outlines = Vec::from_slice(alloc, before)?;
+    outlines.push(&source)?;
+    match declared(alloc, files, &outlines)? {
+        Declared::Table(table) => Ok(Meaning::Means(source, table)),
+        Declared::Refused(output) => Ok(Meaning::Refused(output)),
+    }
+}
+
+#[tactic(auto, unfolding(crate::specs::Meaning::source_meaning))]
+fn source_meaning(
+    alloc: Global,
+    files: &[NamedText<'_>],
+    before: &[&Outline],
+    source: NamedText<'_>,
+) -> Result<Meaning, AllocError>
+    requires short { AreShort (map named_seen files.now) }
+    requires source { IsShortText (named_seen source) }
+    requires few { length before.now < 2 }
+    ensures meaning { IfOk result (λ m. meaning_seen m ≡ source_meaning (map named_seen files.now) (map (λ o. outline_of o.now) before.now) (named_seen source)) }
+    ensures sound { IfOk result IsSound }
+{
+    match parse_file(alloc, source.text) {
+        Ok(outline) => {
+            let mut all = Vec::from_slice(alloc, files)?;
+            all.push(source)?;
+            table_meaning(alloc, &all, before, outline)
+        }
+        Err(Refusal::Memory) => Err(AllocError),
+        Err(Refusal::Fault(fault)) => refused(alloc, source, fault),
+    }
+}
+
+// The macros file is read first.
+fn text_meaning(
+    alloc: Global,
+    file: Option<NamedText<'_>>,
+    source: NamedText<'_>,
+) -> Result<Meaning, AllocError>
+    requires file { AreShort (option_list (option_map named_seen file)) }
+    requires source { IsShortText (named_seen source) }
+    ensures meaning { IfOk result (λ m. meaning_seen m ≡ text_meaning (option_map named_seen file) (named_seen source)) }
+    ensures sound { IfOk result IsSound }
+{
+    let Some(file) = file else {
+        return source_meaning(alloc, &[], &[], source);
+    };
+    match parse_file(alloc, file.text) {
+        Ok(outline) => source_meaning(alloc, &[file], &[&outline], source),
+        Err(Refusal::Memory) => Err(AllocError),
+        Err(Refusal::Fault(fault)) => refused(alloc, file, fault),
+    }
+}
+
+fn too_large(alloc: Global, name: &[u8]) -> Result<Meaning, AllocError>
+    ensures meaning { IfOk result (λ m. meaning_seen m ≡ Refused (refuses name.now 1 1 too_large)) }
+    ensures sound { IfOk result IsSound }
+{
+    let message = fault_text(ParseKind::SourceTooLarge);
+    Ok(Meaning::Refused(refuses(alloc, name, 1, 1, message)?))
+}
+
+fn not_read(alloc: Global, name: &[u8]) -> Result<Meaning, AllocError>
+    ensures meaning { IfOk result (λ m. meaning_seen m ≡ Refused (unread name.now)) }
+    ensures sound { IfOk result IsSound }
+{
+    Ok(Meaning::Refused(unread(alloc, name)?))
+}
+
+// A source by how it was read.
+fn by_source(
+    alloc: Global,
+    name: &[u8],
+    file: Option<NamedText<'_>>,
+    source: &SourceRead,
+) -> Result<Meaning, AllocError>
+    requires file { AreShort (option_list (option_map named_seen file)) }
+    requires source { IsShort source.now }
+    ensures meaning { IfOk result (λ m. meaning_seen m ≡ by_source name.now (option_map named_seen file) source.now) }
+    ensures sound { IfOk result IsSound }
+{
+    match source {
+        SourceRead::Nothing | SourceRead::Failed => not_read(alloc, name),
+        SourceRead::Larger => too_large(alloc, name),
+        SourceRead::Bytes(text) => {
+            let text = text.bytes();
+            text_meaning(alloc, file, NamedText { name, text })
+        }
+    }
+}
+
+// The macros file by how it was read, and then the source.
+fn by_file(
+    alloc: Global,
+    file: &[u8],
+    name: &[u8],
+    inputs: &Inputs,
+) -> Result<Meaning, AllocError>
+    requires macros { IsShort inputs.now.macros }
+    requires source { IsShort inputs.now.source }
+    ensures meaning { IfOk result (λ m. meaning_seen m ≡ by_file file.now name.now inputs.now.macros inputs.now.source) }
+    ensures sound { IfOk result IsSound }
+{
+    match &inputs.macros {
+        SourceRead::Nothing | SourceRead::Failed => not_read(alloc, file),
+        SourceRead::Larger => too_large(alloc, file),
+        SourceRead::Bytes(text) => {
+            let named = NamedText {
+                name: file,
+                text: text.bytes(),
+            };
+            by_source(alloc, name, Some(named), &inputs.source)
+        }
+    }
+}
+
+/// What the files of a command mean, by how they were read: `macros` is the name of the file of macros.
+pub fn meaning_of(
+    alloc: Global,
+    macros: Option<&[u8]>,
+    name: &[u8],
+    inputs: &Inputs,
+) -> Result<Meaning, AllocError>
+    requires macros { IsShort inputs.now.macros }
+    requires source { IsShort inputs.now.source }
+    ensures meaning { IfOk result (λ m. meaning_seen m ≡ meaning_of (option_copied macros.entry) name.now inputs.now) }
+    ensures sound { IfOk result IsSound }
+{
+    match macros {
+        Some(file) => by_file(alloc, file, name, inputs),
+        None => by_source(alloc, name, None, &inputs.source),
+    }
 }
