@@ -15,8 +15,8 @@ mod uses;
 mod visits;
 
 pub use laws::sites_lie_apart;
-pub use macros::plugin_for;
-pub use place::{Place, place_from};
+pub use macros::{macro_of, plugin_for};
+pub use place::{FIRST_PLACE, Place, place_from};
 pub use request::{key_of, request_of};
 pub use site::{Ask, Site, SiteFault, SiteKind};
 pub use visits::sites;

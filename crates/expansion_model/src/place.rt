@@ -10,7 +10,8 @@ pub struct Place {
     pub column: u32,
 }
 
-const FIRST: Place = Place {
+/// The place of the first byte of any text.
+pub const FIRST_PLACE: Place = Place {
     at: 0,
     line: 1,
     column: 1,
@@ -24,7 +25,7 @@ pub fn place_from(text: &[u8], from: Place, offset: u32) -> Place
     ensures { result ≡ place_of text.now offset }
 {
     let end = text.len().min(offset as usize);
-    let start = if from.at as usize > end { FIRST } else { from };
+    let start = if from.at as usize > end { FIRST_PLACE } else { from };
     let (mut at, mut line, mut column) = (start.at as usize, start.line, start.column);
     'bytes: while at < end {
         if text[at] == b'\n' {
