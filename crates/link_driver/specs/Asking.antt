@@ -36,3 +36,11 @@ pub record HasEnded (link : RunningSeen) (key : KeySteps) (sent : List ℕ) (clo
 abbrev pub IsAnswered : {W R : Type 0} → (W → SinkSeen) → (R → SourceSeen) → RunningSeen → KeySteps → List ℕ → Bool → Answered W R → Type 0
 IsAnswered writer_seen reader_seen link key sent is_first (answered.Ready next) = HasAnswered link key sent is_first (running_seen writer_seen reader_seen next)
 IsAnswered writer_seen reader_seen link key sent is_first (answered.Retired closed) = HasEnded link key sent (link_seen writer_seen reader_seen closed)
+
+-- What one more request of a process makes of a driver that had none running otherwise.
+pub data IsAskedOf (done : DriverSeen) (link : RunningSeen) (key : KeySteps) (sent : List ℕ) (is_first : Bool) (next : DriverSeen) : Type 0 where
+  goes_on : (answered : RunningSeen) → HasAnswered link key sent is_first answered
+      → next ≡ record done { running = Some answered } → IsAskedOf done link key sent is_first next
+  ends : (closed : LinkSeen) → HasEnded link key sent closed
+      → next ≡ record done { links = done.links ++ closed ∷ []; room = done.room - length closed.got; running = None }
+      → IsAskedOf done link key sent is_first next

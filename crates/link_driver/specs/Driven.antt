@@ -7,6 +7,7 @@ use Rattle.plugin_frames.specs.Frames.{Rest, IsFrames}
 use Rattle.plugin_messages.specs.PluginOf.{plugin_message_of}
 use Rattle.link_driver.specs.declared.link.TheConstants.{MOST_BYTES}
 use Rattle.link_driver.specs.declared.link.Unstarted.{Unstarted}
+use Rattle.link_driver.specs.declared.driver.Done.{Done}
 use Rattle.link_driver.specs.declared.driver.Driver.{Driver}
 use Rattle.link_driver.specs.Links.{KeySteps, LinkSeen, RunningSeen, link_seen, running_seen, whole_of, running_whole, StopHasCause, HasNotStopped, Holds, IsWritten}
 use Rattle.link_driver.specs.LinkTable.{is_capability, is_result}
@@ -19,13 +20,17 @@ pub record DriverSeen : Type 0 where
   pub room : ℕ
   pub running : Option RunningSeen
 
-abbrev pub driver_seen : {W R : Type 0} → (W → SinkSeen) → (R → SourceSeen) → Driver W R → DriverSeen
-driver_seen writer_seen reader_seen driver = record {
-  links = map (link_seen writer_seen reader_seen) driver.done.closed.items;
-  unstarted = driver.done.unstarted.items;
-  room = driver.done.room;
-  running = option_map (running_seen writer_seen reader_seen) driver.running;
+abbrev pub done_seen : {W R : Type 0} → (W → SinkSeen) → (R → SourceSeen) → Done W R → Option RunningSeen → DriverSeen
+done_seen writer_seen reader_seen done running = record {
+  links = map (link_seen writer_seen reader_seen) done.closed.items;
+  unstarted = done.unstarted.items;
+  room = done.room;
+  running = running;
 }
+
+abbrev pub driver_seen : {W R : Type 0} → (W → SinkSeen) → (R → SourceSeen) → Driver W R → DriverSeen
+driver_seen writer_seen reader_seen driver =
+    done_seen writer_seen reader_seen driver.done (option_map (running_seen writer_seen reader_seen) driver.running)
 
 abbrev pub Each : {A : Type 0} → (A → Type 0) → List A → Type 0
 Each P [] = Unit {0}
@@ -38,6 +43,11 @@ IsSound driver = MayGoOn driver.running
 abbrev pub MayGoOn : Option RunningSeen → Type 0
 MayGoOn None = Unit {0}
 MayGoOn (Some link) = HasNotStopped link.reader
+
+-- the process that runs, where there is one, is the module's
+abbrev pub RunsFor : List ℕ → Option RunningSeen → Type 0
+RunsFor module_name None = Unit {0}
+RunsFor module_name (Some link) = link.module_name ≡ module_name
 
 -- how many bytes processes gave
 abbrev pub bytes_of : List LinkSeen → ℕ

@@ -1,6 +1,6 @@
 -- What is wanted, and which bytes a process is given for it. Frames after swift-syntax's
 -- SwiftCompilerPluginMessageHandling; the rest is this project's own.
-use Rattle.std.specs.Prelude.{◌≡◌, ℕ, ◌++◌, List, [], ◌∷◌}
+use Rattle.std.specs.Prelude.{◌≡◌, ℕ, ◌++◌, Bool, true, false, List, [], ◌∷◌}
 use Rattle.std.specs.List.{flat_map}
 use Rattle.plugin_frames.specs.Frames.{frame_of}
 use Rattle.plugin_messages.specs.RequestBytes.{greeting, host_of, host_payload_of}
@@ -27,10 +27,15 @@ greeting_frame = frame_of (host_payload_of greeting)
 unfoldable pub request_frame : Request → List ℕ
 request_frame request = frame_of (host_payload_of (host_of request))
 
--- what a write gives to a process that was asked these requests before: the greeting stands before the first request
+-- what one write gives for a request: the greeting stands before the first of a process
+abbrev pub bytes_for : Bool → Request → List ℕ
+bytes_for true request = greeting_frame ++ request_frame request
+bytes_for false request = request_frame request
+
+-- the same, of a process that was asked these requests before
 abbrev pub write_for : List Wanted → Request → List ℕ
-write_for [] request = greeting_frame ++ request_frame request
-write_for (first ∷ more) request = request_frame request
+write_for [] request = bytes_for true request
+write_for (first ∷ more) request = bytes_for false request
 
 -- all that the writes for these requests give: the greeting's frame and then theirs, in order
 abbrev pub sent_for : List Wanted → List ℕ

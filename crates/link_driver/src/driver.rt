@@ -8,9 +8,8 @@ ghost use Rattle.link_driver.specs.Driven.{driver_seen, IsSound, IsDriven, runni
 ghost use Rattle.link_driver.specs.Ran.{HasRun};
 
 use crate::link::{Closed, MOST_BYTES, Running, Unstarted};
-use crate::retiring::{keep_for, with_closed};
+use crate::retiring::{keep_for, stopped};
 use crate::starting::{ask_running, ask_started};
-use crate::talk::retire;
 use plugin_messages::Request;
 use std::alloc::{AllocError, Global};
 use swift_base::{Sink, Source, Starter};
@@ -27,8 +26,8 @@ pub(crate) struct Done<W: Drop, R: Drop> {
 /// What was done so far, and the process that may be asked again, where there is one.
 #[derive(Drop)]
 pub struct Driver<W: Drop, R: Drop> {
-    done: Done<W, R>,
-    running: Option<Running<W, R>>,
+    pub(crate) done: Done<W, R>,
+    pub(crate) running: Option<Running<W, R>>,
 }
 
 /// What was done: the processes in the order of their starts, and the failed starts in theirs.

@@ -1,8 +1,8 @@
 // The frames that a process is given.
-ghost use Rattle.std.specs.Prelude.{◌≡◌, ◌++◌, IfOk, if◌then◌else◌};
+ghost use Rattle.std.specs.Prelude.{◌≡◌, ◌++◌, IfOk};
 ghost use Rattle.plugin_frames.specs.Frames.{frame_of};
 ghost use Rattle.plugin_messages.specs.Writable.{IsRequestWritable};
-ghost use Rattle.link_driver.specs.Requests.{greeting_frame, request_frame};
+ghost use Rattle.link_driver.specs.Requests.{greeting_frame, request_frame, bytes_for};
 
 use plugin_frames::header;
 use plugin_messages::{HostMessage, Request, host_of, host_payload};
@@ -37,8 +37,7 @@ fn put_greeting(alloc: Global, frames: &mut Vec<u8>) -> Result<(), AllocError>
 /// What one write gives for a request: the greeting stands before the first of a process.
 pub fn write_for(alloc: Global, request: &Request, is_first: bool) -> Result<Vec<u8>, AllocError>
     requires { IsRequestWritable request.now }
-    ensures { IfOk result (λ sent. sent.items ≡
-        (if is_first then greeting_frame ++ request_frame request.now else request_frame request.now)) }
+    ensures { IfOk result (λ sent. sent.items ≡ bytes_for is_first request.now) }
 {
     let mut sent = Vec::new(alloc);
     if is_first {
