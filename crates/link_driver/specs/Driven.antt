@@ -1,6 +1,6 @@
 -- What a driver has done for all that it was asked so far, turn by turn. This project's own.
-use Rattle.std.specs.Prelude.{◌≡◌, ℕ, ◌+◌, ◌-◌, ◌<◌, ◌≤◌, ◌++◌, ◌⊎◌, Bool, true, false, Option, Some, None, option_map, List, [], ◌∷◌, length, map}
-use Rattle.std.specs.List.{flat_map, sum_by}
+use Rattle.std.specs.Prelude.{◌≡◌, ℕ, zero, suc, ◌+◌, ◌-◌, ◌<◌, ◌≤◌, ◌++◌, ◌⊎◌, Bool, true, false, Option, Some, None, option_map, List, [], ◌∷◌, length, map}
+use Rattle.std.specs.List.{flat_map}
 use Rattle.swift_base.specs.Told.{prepend, Rose}
 use Rattle.swift_base.specs.Outside.{SourceSeen, SinkSeen, StarterSeen, TakesLink, then_started, then_failed}
 use Rattle.plugin_frames.specs.Frames.{Rest, IsFrames}
@@ -36,13 +36,13 @@ abbrev pub Each : {A : Type 0} → (A → Type 0) → List A → Type 0
 Each P [] = Unit {0}
 Each P (x ∷ xs) = P x × Each P xs
 
--- the process that may be asked again, where there is one, neither ended nor failed so far
-abbrev pub IsSound : DriverSeen → Type 0
-IsSound driver = MayGoOn driver.running
-
 abbrev pub MayGoOn : Option RunningSeen → Type 0
 MayGoOn None = Unit {0}
 MayGoOn (Some link) = HasNotStopped link.reader
+
+-- the process that may be asked again, where there is one, neither ended nor failed so far
+abbrev pub IsSound : DriverSeen → Type 0
+IsSound driver = MayGoOn driver.running
 
 -- the process that runs, where there is one, is the module's
 abbrev pub RunsFor : List ℕ → Option RunningSeen → Type 0
@@ -51,7 +51,8 @@ RunsFor module_name (Some link) = link.module_name ≡ module_name
 
 -- how many bytes processes gave
 abbrev pub bytes_of : List LinkSeen → ℕ
-bytes_of links = sum_by (λ link. length link.got) links
+bytes_of [] = 0
+bytes_of (link ∷ links) = length link.got + bytes_of links
 
 abbrev pub running_bytes : Option RunningSeen → ℕ
 running_bytes None = 0
@@ -68,7 +69,7 @@ pub record HasGreeted (count : ℕ) (payloads : List (List ℕ)) : Type 0 where
 
 -- no payload where nothing was asked
 abbrev pub AreReplies : ℕ → List (List ℕ) → Type 0
-AreReplies 0 payloads = payloads ≡ []
+AreReplies zero payloads = payloads ≡ []
 AreReplies (suc n) payloads = HasGreeted (suc n) payloads
 
 -- bytes that begin with the frames of the greeting's answer and of at least so many replies

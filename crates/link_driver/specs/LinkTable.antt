@@ -1,6 +1,6 @@
 -- What became of the keys that a process was asked. This project's own; the payloads are those of swift-syntax's
 -- plug-ins, by their place alone: the first answers the greeting, and each later one the request of its number.
-use Rattle.std.specs.Prelude.{◌≡◌, ℕ, ◌+◌, ◌==◌, ◌&&◌, ◌||◌, ◌++◌, not, Bool, true, false, if◌then◌else◌, Option, Some, None, Result, Ok, Err, List, [], ◌∷◌, length, map, slice_get}
+use Rattle.std.specs.Prelude.{◌≡◌, ℕ, zero, suc, ◌+◌, ◌==◌, ◌&&◌, ◌||◌, ◌++◌, not, Bool, true, false, if◌then◌else◌, Option, Some, None, Result, Ok, Err, List, [], ◌∷◌, length, map, slice_get}
 use Rattle.plugin_frames.specs.Frames.{Tail, Rest, Length, IsFrames}
 use Rattle.plugin_messages.specs.PluginOf.{plugin_message_of}
 use Rattle.plugin_messages.specs.declared.message.PluginMessage.{PluginMessage}
@@ -31,13 +31,13 @@ is_capability (Ok (plugin.Result text diagnostics)) = false
 is_capability (Ok (plugin.Loaded loaded diagnostics)) = false
 is_capability (Err reason) = false
 
--- the payload in a reply's place is an expansion result
-abbrev pub is_result : List ℕ → Bool
-is_result payload = is_reply (reply_outcome (plugin_message_of payload))
-
 abbrev pub is_reply : Outcome → Bool
 is_reply (outcome.Reply text diagnostics) = true
 is_reply (outcome.Failed cause) = false
+
+-- the payload in a reply's place is an expansion result
+abbrev pub is_result : List ℕ → Bool
+is_result payload = is_reply (reply_outcome (plugin_message_of payload))
 
 -- a length above the limit stands where the next payload would
 abbrev pub is_length : Tail → Bool
@@ -73,7 +73,7 @@ outcome_at count payloads too_long stop write_failed number =
 
 -- the values at 0, 1 and so on, below a number
 abbrev pub each_below : {A : Type 0} → (ℕ → A) → ℕ → List A
-each_below f 0 = []
+each_below f zero = []
 each_below f (suc n) = each_below f n ++ f n ∷ []
 
 -- The outcomes of a process's keys, in their order.

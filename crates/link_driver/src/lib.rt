@@ -20,5 +20,8 @@ pub use laws::{each_request_is_asked_once, only_last_keys_fail, processes_serve,
 pub use link::{Closed, MOST_BYTES, Stop, Unstarted};
 pub use table::{link_table, run_table};
 
+#[cfg(test)]
+mod tests;
+
 
 

@@ -1,5 +1,5 @@
 // What became of the keys that were asked.
-ghost use Rattle.std.specs.Prelude.{◌≡◌, ◌<◌, ◌++◌, [], length, map, slice_get, option_map, IfOk};
+ghost use Rattle.std.specs.Prelude.{◌≡◌, ◌+◌, ◌^◌, ◌<◌, ◌++◌, [], length, map, slice_get, option_map, IfOk};
 ghost use Rattle.plugin_frames.specs.Frames.{Tail, IsFrames};
 ghost use Rattle.plugin_frames.specs.Cutting.{payloads_of};
 ghost use Rattle.swift_base.specs.Outside.{SinkSeen, SourceSeen};
@@ -53,7 +53,7 @@ fn replied(
     too_long: bool,
     stop: Stop,
 ) -> Result<Option<Outcome>, AllocError>
-    ensures { IfOk result (λ o. o ≡ replied (option_map (λ p. p.items) payload.entry) too_long stop) }
+    ensures { IfOk result (λ o. o ≡ replied (option_map (λ p. p.now.items) payload.entry) too_long stop) }
 {
     match payload {
         Some(payload) => Ok(Some(reply_outcome(alloc, payload)?)),
