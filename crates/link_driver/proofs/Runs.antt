@@ -13,8 +13,8 @@ use Rattle.link_driver.specs.Ran.{HasRun}
 use Rattle.link_driver.specs.Laws.{asked_keys, AsksOnce, RunsAskOnce, IsSublist, none, takes, skips, IsServedOf, ProcessesServe, GaveLinks, RunsGiveLinks, EachPair, then_commands, IsStartedFor, IsFailedFor, StartsAsWanted, RunsStartAsWanted, FailedBetween, FailedStartsHaveCauses, HasCause, StopsHaveCauses, NothingDone, NothingWantedNothingDone}
 
 most_given : (done : DriverSeen) → done.running ≡ None → MOST_BYTES < bytes_of done.links + running_bytes done.running → MOST_BYTES < bytes_of done.links
-most_given done none over =
-    let most : MOST_BYTES < bytes_of done.links + 0 = subst (λ (r : Option RunningSeen). MOST_BYTES < bytes_of done.links + running_bytes r) none over in
+most_given done is_none over =
+    let most : MOST_BYTES < bytes_of done.links + 0 = subst (λ (r : Option RunningSeen). MOST_BYTES < bytes_of done.links + running_bytes r) is_none over in
     omega (arith, most)
 
 -- a driver that runs no process has run
@@ -126,10 +126,10 @@ gave_more (Some (first ∷ more)) between after link links taken gave =
     let rest = subst (λ (b : Option (List (List ℕ))). GaveLinks b links after) taken.0 gave in
     (
       first ∷ rest.0,
-      rest.1.0,
-      ap (λ (l : List (List ℕ)). first ∷ l) rest.1.1.0,
-      rest.1.1.1.0,
-      ap (λ (o : Option (List ℕ)). o ∷ map Some rest.0) (sym taken.1) ∙ ap (λ (l : List (Option (List ℕ))). whole_of link ∷ l) rest.1.1.1.1,
+      rest.1,
+      ap (λ (l : List (List ℕ)). first ∷ l) rest.2,
+      rest.3,
+      ap (λ (o : Option (List ℕ)). o ∷ map Some rest.0) (sym taken.1) ∙ ap (λ (l : List (Option (List ℕ))). whole_of link ∷ l) rest.4,
     )
 
 no_links_given : (links : Option (List (List ℕ))) → GaveLinks links [] links
@@ -171,9 +171,9 @@ one_failed None between after command started failed first then = then ∙ ap (�
 one_failed (Some known) between after command started failed first then =
     then ∙ ap (λ (c : Option Commands). then_commands c started failed) first ∙ rw (append_assoc known.failed (command ∷ []) failed) refl
 
-unfolding started_in failed_in
 commands_are : (before : StarterSeen) (turns : List Turn) (after : StarterSeen) → AreTurns before turns after
     → after.commands ≡ then_commands before.commands (flat_map started_in turns) (flat_map failed_in turns)
+unfolding started_in failed_in
 commands_are before [] after are = ap (λ (s : StarterSeen). s.commands) are ∙ no_more_commands before.commands
 commands_are before (Process link earlier last ∷ turns) after (between, is, are) =
     one_started before.commands between.commands after.commands (first_command earlier last) _ _ is.1.commands (commands_are between turns after are)
@@ -203,9 +203,9 @@ failed_behind front wanted entry command is = record {
   wanted_so = follows front (is.request ∷ []) wanted is.wanted_so;
 }
 
-unfolding started_in
 started_for : (before : StarterSeen) (turns : List Turn) (after : StarterSeen) (left : List Wanted) → AreTurns before turns after
     → EachPair (IsStartedFor (flat_map requests_in turns ++ left)) (flat_map links_in turns) (flat_map started_in turns)
+unfolding started_in
 started_for before [] after left are = tt
 started_for before (Process link earlier last ∷ turns) after left (between, is, are) =
     let others : List Wanted = flat_map requests_in turns ++ left in
@@ -217,9 +217,9 @@ started_for before (Failure entry wanted ∷ turns) after left (between, is, are
     let others : List Wanted = flat_map requests_in turns ++ left in
     pairs_so (IsStartedFor others) (IsStartedFor (wanted ∷ others)) _ _ (started_behind (wanted ∷ []) others) (started_for between turns after left are)
 
-unfolding failed_in
 failed_for : (before : StarterSeen) (turns : List Turn) (after : StarterSeen) (left : List Wanted) → AreTurns before turns after
     → EachPair (IsFailedFor (flat_map requests_in turns ++ left)) (flat_map unstarted_in turns) (flat_map failed_in turns)
+unfolding failed_in
 failed_for before [] after left are = tt
 failed_for before (Process link earlier last ∷ turns) after left (between, is, are) =
     let others : List Wanted = flat_map requests_in turns ++ left in
@@ -248,7 +248,7 @@ runs_start_as_wanted wanted before links unstarted after ran = record {
 
 between_from : (from middle to : ℕ) (entries : List Unstarted) → from ≤ middle → FailedBetween middle entries to → FailedBetween from entries to
 between_from from middle to [] less is = omega (arith, less, is)
-between_from from middle to (entry ∷ entries) less is = (omega (arith, less, is.0), is.1)
+between_from from middle to (entry ∷ entries) less is = (omega (arith, less, is.0), is.1, is.2, is.3)
 
 counts_rose : (before : StarterSeen) (turns : List Turn) (after : StarterSeen) → AreTurns before turns after
     → FailedBetween before.faults (flat_map unstarted_in turns) after.faults

@@ -1,5 +1,5 @@
 -- What one more turn makes of a driver.
-use Rattle.std.proofs.Common.{◌≡◌, ℕ, zero, suc, ◌+◌, ◌-◌, ◌<◌, ◌≤◌, ◌⊎◌, Bool, true, false, nat_le, Option, Some, None, option_map, List, [], ◌∷◌, ◌++◌, length, map, flat_map, refl, sym, ap, subst, ◌∙◌, append_assoc, append-nil, length-append, arith, inl, inr}
+use Rattle.std.proofs.Common.{◌≡◌, ℕ, zero, suc, ◌+◌, ◌-◌, ◌<◌, ◌≤◌, ◌⊎◌, Bool, true, false, nat_le, Option, Some, None, option_map, List, [], ◌∷◌, ◌++◌, length, map, flat_map, refl, sym, ap, ap₂, subst, ◌∙◌, append_assoc, append-nil, length-append, arith, inl, inr}
 use Rattle.std.proofs.lemmas.Bool.Decides.{nat_tests}
 use Rattle.std.proofs.lemmas.List.Concat.{flat_map-append}
 use Rattle.std.proofs.lemmas.List.{map-append}
@@ -11,7 +11,7 @@ use Rattle.plugin_messages.specs.PluginOf.{plugin_message_of}
 use Rattle.plugin_messages.specs.declared.request.Request.{Request}
 use Rattle.link_driver.specs.declared.link.TheConstants.{MOST_BYTES}
 use Rattle.link_driver.specs.declared.link.Unstarted.{Unstarted}
-use Rattle.link_driver.specs.Links.{LinkSeen, RunningSeen, whole_of, running_whole, Gains, Holds, HasNotStopped}
+use Rattle.link_driver.specs.Links.{KeySteps, LinkSeen, RunningSeen, whole_of, running_whole, Gains, Holds, IsWritten, HasNotStopped}
 use Rattle.link_driver.specs.LinkTable.{is_capability, is_result}
 use Rattle.link_driver.specs.Requests.{Wanted, wanted_of, key_of, module_of, greeting_frame, request_frame, bytes_for, write_for, sent_for, first_command}
 use Rattle.link_driver.specs.Awaiting.{AreAwaited, Replies}
@@ -152,7 +152,7 @@ process_retired earlier last link closed none ready retired = record {
   asked = retired.asked ∙ ready.asked;
   of_module = of_same (earlier ++ last ∷ []) link.module_name closed.module_name retired.module_name ready.of_module;
   written =
-      subst (λ (f : Bool). _) (sym retired.failed)
+      subst (λ (f : Bool). IsWritten (sent_for earlier) (write_for earlier last.request) f closed.writer) (sym retired.failed)
       (retired.written (sent_for earlier) (write_for earlier last.request)
       (given_held (sent_for earlier) (write_for earlier last.request) link.writer
       (subst (λ (b : List ℕ). Holds b link.writer) (sym (sent_more earlier last)) ready.held)));
@@ -162,6 +162,25 @@ process_retired earlier last link closed none ready retired = record {
       (subst (λ (n : ℕ). HasReplies n closed.got) (longer earlier last)
       (has_behind (length (earlier ++ last ∷ [])) link.got closed.got retired.gains.gained ready.payloads ready.frames ready.replies retired.gains.appended));
 }
+
+abbrev made : List LinkSeen → List Unstarted → ℕ → Option RunningSeen → DriverSeen
+made links unstarted room running = record { links = links; unstarted = unstarted; room = room; running = running }
+
+pub same_seen : (one other : DriverSeen) → other.links ≡ one.links → other.unstarted ≡ one.unstarted → other.room ≡ one.room → other.running ≡ one.running
+    → other ≡ one
+same_seen one other links unstarted room running =
+    ap₂ (λ (l : List LinkSeen) (u : List Unstarted). made l u other.room other.running) links unstarted
+    ∙ ap₂ (λ (r : ℕ) (x : Option RunningSeen). made one.links one.unstarted r x) room running
+
+pub as_answered : (link next : RunningSeen) (key other : KeySteps) (sent bytes : List ℕ) (first : Bool) → key ≡ other → sent ≡ bytes
+    → HasAnswered link key sent first next → HasAnswered link other bytes first next
+as_answered link next key other sent bytes first same_key same_bytes is =
+    subst (λ k. HasAnswered link k bytes first next) same_key (subst (λ b. HasAnswered link key b first next) same_bytes is)
+
+pub as_ended : (link : RunningSeen) (closed : LinkSeen) (key other : KeySteps) (sent bytes : List ℕ) → key ≡ other → sent ≡ bytes
+    → HasEnded link key sent closed → HasEnded link other bytes closed
+as_ended link closed key other sent bytes same_key same_bytes is =
+    subst (λ k. HasEnded link k bytes closed) same_key (subst (λ b. HasEnded link key b closed) same_bytes is)
 
 -- one more turn of a driver
 
@@ -310,7 +329,7 @@ not_first : (requests earlier : List Wanted) (last : Wanted) → requests ≡ ea
 not_first requests [] last is = ap is_first (sym is)
 not_first requests (first ∷ more) last is = ap is_first (sym is)
 
-as_asked : (done next : DriverSeen) (link : RunningSeen) (key : List _) (sent other : List ℕ) (first second : Bool) → sent ≡ other → first ≡ second
+as_asked : (done next : DriverSeen) (link : RunningSeen) (key : KeySteps) (sent other : List ℕ) (first second : Bool) → sent ≡ other → first ≡ second
     → IsAskedOf done link key sent first next → IsAskedOf done link key other second next
 as_asked done next link key sent other first second sent_same same is =
     subst (λ (b : Bool). IsAskedOf done link key other b next) same (subst (λ (s : List ℕ). IsAskedOf done link key s first next) sent_same is)

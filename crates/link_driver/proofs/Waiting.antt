@@ -11,8 +11,16 @@ use Rattle.link_driver.specs.Links.{Gains}
 use Rattle.link_driver.specs.LinkTable.{greets_badly, is_capability, is_result}
 use Rattle.link_driver.specs.Awaiting.{HasRead, IsSoleResult, AreAwaited, Replies}
 
-pub read_none : (got : List ℕ) → NoFrames → HasRead got got [] (Rest [])
-read_none got none = record { gained = []; rest = []; waits = refl; appended = sym (append-nil got); read = none }
+pub read_none : (got : List ℕ) (payloads : List (List ℕ)) (frames : Tail) → payloads ≡ [] → frames ≡ Rest [] → NoFrames → HasRead got got payloads frames
+read_none got payloads frames nothing fresh none = record {
+  gained = [];
+  rest = [];
+  waits = fresh;
+  appended = sym (append-nil got);
+  read =
+      subst (λ (p : List (List ℕ)). IsFrames [] p frames) (sym nothing)
+      (subst (λ (t : Tail). IsFrames [] [] t) (sym fresh) none);
+}
 
 -- the piece that was fed is what the reader gave
 pub read_more : {A : Type 0} (start got next piece : List ℕ) (before after : SourceSeen) (old new : List (Vec ℕ A)) (frames then : Tail)
@@ -32,6 +40,10 @@ read_more start got next piece before after old new frames then goes_on has gain
           (goes_on has.gained piece reads.rest (payloads_of old) reads.read.payloads then
           (subst (λ (t : Tail). IsFrames has.gained (payloads_of old) t) reads.held has.read) reads.read.frames);
     }
+
+pub some_payloads : {A : Type 0} (payloads : List (Vec ℕ A)) → 1 ≤ length payloads → 1 ≤ length (payloads_of payloads)
+some_payloads [] some = some
+some_payloads (payload ∷ payloads) some = omega arith
 
 rest_alone : (frames : Tail) (rest : List ℕ) → frames ≡ Rest rest → ¬ IsWaiting frames → frames ≡ Rest []
 rest_alone frames [] is alone = is

@@ -10,6 +10,7 @@ ghost use Rattle.link_driver.specs.Ran.{HasRun};
 use crate::link::{Closed, MOST_BYTES, Running, Unstarted};
 use crate::retiring::{keep_for, stopped};
 use crate::starting::{ask_running, ask_started};
+use plugin_frames::frames_go_on;
 use plugin_messages::Request;
 use std::alloc::{AllocError, Global};
 use swift_base::{Sink, Source, Starter};
@@ -80,6 +81,7 @@ pub fn ask<P: Starter>(
         → IfOk result (λ next. IsDriven (wanted ++ wanted_of command.now request.now ∷ []) before
         (driver_seen P.Writer.seen P.Reader.seen next) (P.seen starter.new)) }
 {
+    frames_go_on();
     let driver = keep_for(driver, request.target.module.bytes())?;
     if is_spent(&driver) {
         return Ok(driver);

@@ -12,6 +12,7 @@ use crate::frames::write_for;
 use crate::link::{Running, Unstarted};
 use crate::retiring::with_closed;
 use crate::talk::{Answered, ask_process};
+use plugin_frames::{frames_are_read, frames_go_on};
 use plugin_messages::Request;
 use std::alloc::{AllocError, Global};
 use swift_base::{Sink, Source, StartFault, Starter};
@@ -105,6 +106,8 @@ pub fn ask_started<P: Starter>(
         → IfOk result (λ next. IsDriven (wanted ++ wanted_of command.now request.now ∷ []) before
         (driver_seen P.Writer.seen P.Reader.seen next) (P.seen starter.new)) }
 {
+    frames_are_read();
+    frames_go_on();
     let before = starter.faults();
     match starter.start(alloc, command) {
         Ok((writer, reader)) => {

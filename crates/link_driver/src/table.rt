@@ -1,5 +1,5 @@
 // What became of the keys that were asked.
-ghost use Rattle.std.specs.Prelude.{◌≡◌, ◌+◌, ◌^◌, ◌<◌, ◌++◌, [], length, map, slice_get, option_map, IfOk};
+ghost use Rattle.std.specs.Prelude.{◌≡◌, ◌+◌, ◌^◌, ◌<◌, ◌++◌, ◌∷◌, [], length, map, slice_get, option_map, IfOk};
 ghost use Rattle.plugin_frames.specs.Frames.{Tail, IsFrames};
 ghost use Rattle.plugin_frames.specs.Cutting.{payloads_of};
 ghost use Rattle.swift_base.specs.Outside.{SinkSeen, SourceSeen};
@@ -108,36 +108,39 @@ pub fn link_table<W: Drop, R: Drop>(
     Ok(table)
 }
 
-// Appends the keys that have an outcome, with it.
-fn put_decided(
-    keys: &[Key],
-    outcomes: Vec<Option<Outcome>>,
+fn put_outcome(
+    key: &Key,
+    outcome: Option<Outcome>,
     pairs: &mut Vec<(Key, Outcome)>,
 ) -> Result<(), AllocError>
-    ensures { IfOk result (λ _. pairs.new.items ≡ pairs.old.items ++ decided keys.now outcomes.items) }
+    ensures { IfOk result (λ _. pairs.new.items ≡ pairs.old.items ++ decided (key.now ∷ []) (outcome ∷ [])) }
 {
-    let mut rest = keys;
-    'outcomes: for outcome in outcomes {
-        let Some((key, others)) = rest.split_first() else {
-            return Ok(());
-        };
-        if let Some(outcome) = outcome {
+    match outcome {
+        Some(outcome) => {
             pairs.push((key.clone()?, outcome))?;
+            Ok(())
         }
-        rest = others;
+        None => Ok(()),
     }
+}
+
+fn put_failure(entry: &Unstarted, pairs: &mut Vec<(Key, Outcome)>) -> Result<(), AllocError>
+    ensures { IfOk result (λ _. pairs.new.items ≡ pairs.old.items ++ (entry.now.key, no_reply) ∷ []) }
+{
+    pairs.push((entry.key.clone()?, Outcome::Failed(Cause::NoReply)))?;
     Ok(())
 }
 
-fn put_failed(unstarted: &[Unstarted], pairs: &mut Vec<(Key, Outcome)>) -> Result<(), AllocError>
+fn put_failures(unstarted: &[Unstarted], pairs: &mut Vec<(Key, Outcome)>) -> Result<(), AllocError>
     ensures { IfOk result (λ _. pairs.new.items ≡ pairs.old.items ++ map (λ entry. (entry.key, no_reply)) unstarted.now) }
 {
     'entries: for entry in unstarted {
-        pairs.push((entry.key.clone()?, Outcome::Failed(Cause::NoReply)))?;
+        put_failure(entry, pairs)?;
     }
     Ok(())
 }
 
+// Appends the keys of a process that have an outcome, with it.
 fn put_link<W: Drop, R: Drop>(
     alloc: Global,
     link: &Closed<W, R>,
@@ -146,8 +149,13 @@ fn put_link<W: Drop, R: Drop>(
     ensures { IfOk result (λ _. (outcomes : _) × IsLinkTable (length link.now.asked.items) link.now.got.items link.now.stop link.now.write_failed outcomes
         × (pairs.new.items ≡ pairs.old.items ++ decided link.now.asked.items outcomes)) }
 {
-    let outcomes = link_table(alloc, link)?;
-    put_decided(&link.asked, outcomes, pairs)
+    let given = given_in(alloc, &link.got)?;
+    let count = link.asked.len();
+    'keys: for number in 0..count {
+        let outcome = outcome_at(alloc, count, &given, link.stop, link.write_failed, number)?;
+        put_outcome(&link.asked[number], outcome, pairs)?;
+    }
+    Ok(())
 }
 
 fn link_pairs<W: Sink, R: Source>(
@@ -172,6 +180,6 @@ pub fn run_table<W: Sink, R: Source>(
     ensures { IfOk result (λ pairs. IsRunTable (map (link_seen W.seen R.seen) links.now) unstarted.now pairs.items) }
 {
     let mut pairs = link_pairs(alloc, links)?;
-    put_failed(unstarted, &mut pairs)?;
+    put_failures(unstarted, &mut pairs)?;
     Ok(pairs)
 }

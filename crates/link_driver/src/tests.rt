@@ -16,10 +16,10 @@ const GREETED: &str =
     "<\0\0\0\0\0\0\0{\"getCapabilityResult\":{\"capability\":{\"protocolVersion\":7}}}";
 
 const REPLIED: &str =
-    "7\0\0\0\0\0\0\0{\"expandMacroResult\":{\"diagnostics\":[],\"expandedSource\":\"1\"}}";
+    "=\0\0\0\0\0\0\0{\"expandMacroResult\":{\"diagnostics\":[],\"expandedSource\":\"1\"}}";
 
 const LOADED: &str =
-    "9\0\0\0\0\0\0\0{\"loadPluginLibraryResult\":{\"diagnostics\":[],\"loaded\":true}}";
+    "<\0\0\0\0\0\0\0{\"loadPluginLibraryResult\":{\"diagnostics\":[],\"loaded\":true}}";
 
 const GREETING: &str =
     "6\0\0\0\0\0\0\0{\"getCapability\":{\"capability\":{\"protocolVersion\":7}}}";
@@ -136,13 +136,13 @@ fn letters(alloc: Global, link: &Closed<MemSink, MemSource>) -> Result<Vec<u8>, 
 #[test]
 fn two_requests_of_one_process(rt: HostRuntime) -> Result<(), Fail> {
     let alloc = rt.alloc();
-    let sizes = [68, 63, 63];
+    let sizes = [68, 69, 69];
     let mut scripts = Vec::new(alloc);
     scripts.push(script(alloc, &[GREETED, REPLIED, REPLIED], &sizes)?)?;
     let ran = started(alloc, scripts, Vec::new(alloc), &["M", "M"])?;
     assert_eq!(rt; ran.links.len(), 1);
     expect(&rt, &ran.links[0], 2, Stop::Ended);
-    assert_eq!(rt; letters(alloc, &ran.links[0])?.as_slice(), b"rr");
+    assert_eq!(rt; letters(alloc, &ran.links[0])?.as_slice(), b"rr".as_slice());
     let held = String::from_utf8_lossy(alloc, ran.links[0].writer.held())?;
     assert_eq!(rt; held.as_str(), "x");
     Ok(())
