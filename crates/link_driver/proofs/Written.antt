@@ -1,5 +1,5 @@
 -- What a reader gave, piece after piece, and what a writer was given.
-use Rattle.std.proofs.Common.{◌≡◌, ℕ, zero, suc, ◌<◌, ◌≤◌, Bool, true, false, Option, Some, None, List, [], ◌++◌, length, take, refl, sym, ap, subst, ◌∙◌, append_assoc, append-nil, arith, inl, inr}
+use Rattle.std.proofs.Common.{◌≡◌, ℕ, zero, suc, ◌<◌, ◌≤◌, Bool, true, false, Option, Some, None, Result, Ok, Err, IfOk, List, [], ◌++◌, length, take, refl, sym, ap, subst, ◌∙◌, append_assoc, append-nil, arith, inl, inr}
 use Rattle.swift_base.specs.Told.{Tells, prepend, then_bytes, Rose}
 use Rattle.swift_base.specs.Outside.{SourceSeen, SinkSeen, IsClosedBy}
 use Rattle.link_driver.specs.Links.{Gains, Holds, IsGiven, IsWritten}
@@ -109,3 +109,13 @@ pub nothing_taken : (held : Option (List ℕ)) (n : ℕ) → then_bytes held (ta
 nothing_taken None n = refl
 nothing_taken (Some held) zero = ap Some (append-nil held)
 nothing_taken (Some held) (suc n) = ap Some (append-nil held)
+
+-- what holds of a result by three facts about it
+pub by_three : {A E : Type 0} (result : Result A E) (P Q R S : A → Type 0) → ((x : A) → P x → Q x → R x → S x) → IfOk result P → IfOk result Q → IfOk result R
+    → IfOk result S
+by_three (Ok x) P Q R S so p q r = so x p q r
+by_three (Err e) P Q R S so p q r = tt
+
+pub by_one : {A E : Type 0} (result : Result A E) (P S : A → Type 0) → ((x : A) → P x → S x) → IfOk result P → IfOk result S
+by_one (Ok x) P S so p = so x p
+by_one (Err e) P S so p = tt
