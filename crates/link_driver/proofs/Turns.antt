@@ -433,3 +433,6 @@ asked_in_vain wanted one before middle after done next entry none_runs some driv
       room = subst (λ (l : List LinkSeen). next.room ≡ (MOST_BYTES + 1) - bytes_of l) (sym links) (room ∙ driven.room);
       limit = inl refl;
     }
+
+pub some_room : (room : ℕ) → nat_le room 0 ≡ false → 0 < room
+some_room room some = grind (arith, nat_tests, some)
