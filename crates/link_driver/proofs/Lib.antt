@@ -1,0 +1,5 @@
+pub mod Written
+pub mod Waiting
+pub mod Turns
+pub mod Runs
+pub mod Replied

@@ -1,0 +1,7 @@
+use Rattle.std.proofs.Common.{ap, map, refl}
+use Rattle.link_driver.specs.Links.{link_seen}
+use Rattle.link_driver.proofs.Turns.{nothing_done}
+use Rattle.link_driver.proofs.driver.Driver.new.Goals as goal
+
+pub returns-clause-driven : goal.returns-clause-driven
+returns-clause-driven g c = λ before. nothing_done before _ (ap (map (link_seen g.W.Sink.seen g.R.Source.seen)) c.new.ensures.items) c.new-2.ensures.items refl refl

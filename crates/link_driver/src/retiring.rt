@@ -1,0 +1,95 @@
+// Processes that are asked nothing more.
+ghost use Rattle.std.specs.Prelude.{◌≡◌, ◌++◌, ◌∷◌, [], ◌-◌, List, Some, None, length, IfOk};
+ghost use Rattle.swift_base.specs.Outside.{StarterSeen};
+ghost use Rattle.link_driver.specs.Links.{HasNotStopped, running_seen};
+ghost use Rattle.link_driver.specs.Requests.{Wanted};
+ghost use Rattle.link_driver.specs.Driven.{done_seen, driver_seen, IsSound, RunsFor, IsDriven};
+
+use crate::driver::{Done, Driver};
+use crate::link::{Closed, Running};
+use crate::talk::retire;
+use plugin_frames::frames_are_read;
+use std::alloc::AllocError;
+use swift_base::{Sink, Source};
+
+/// One process more that is asked nothing more.
+pub fn with_closed<W: Drop, R: Drop>(
+    done: Done<W, R>,
+    link: Closed<W, R>,
+) -> Result<Done<W, R>, AllocError>
+    ensures closed { IfOk result (λ next. next.closed.items ≡ done.closed.items ++ link ∷ []) }
+    ensures unstarted { IfOk result (λ next. next.unstarted.items ≡ done.unstarted.items) }
+    ensures room { IfOk result (λ next. next.room ≡ done.room - length link.got.items) }
+{
+    let Done {
+        mut closed,
+        unstarted,
+        room,
+    } = done;
+    let room = room.saturating_sub(link.got.len());
+    closed.push(link)?;
+    Ok(Done {
+        closed,
+        unstarted,
+        room,
+    })
+}
+
+// Retires the process that runs.
+fn with_retired<W: Sink, R: Source>(
+    done: Done<W, R>,
+    link: Running<W, R>,
+) -> Result<Done<W, R>, AllocError>
+    requires { HasNotStopped (R.seen link.reader) }
+    ensures { (wanted : List Wanted) (before after : StarterSeen)
+        → IsDriven wanted before (done_seen W.seen R.seen done (Some (running_seen W.seen R.seen link))) after
+        → IfOk result (λ next. IsDriven wanted before (done_seen W.seen R.seen next None) after) }
+{
+    frames_are_read();
+    let closed = retire(link, false)?;
+    with_closed(done, closed)
+}
+
+/// Retires the process that runs, where there is one.
+pub fn stopped<W: Sink, R: Source>(driver: Driver<W, R>) -> Result<Done<W, R>, AllocError>
+    requires { IsSound (driver_seen W.seen R.seen driver) }
+    ensures { (wanted : List Wanted) (before after : StarterSeen) → IsDriven wanted before (driver_seen W.seen R.seen driver) after
+        → IfOk result (λ next. IsDriven wanted before (done_seen W.seen R.seen next None) after) }
+{
+    let Driver { done, running } = driver;
+    match running {
+        None => Ok(done),
+        Some(link) => with_retired(done, link),
+    }
+}
+
+/// Retires the process that runs, where it is another module's.
+pub fn keep_for<W: Sink, R: Source>(
+    driver: Driver<W, R>,
+    module_name: &[u8],
+) -> Result<Driver<W, R>, AllocError>
+    requires { IsSound (driver_seen W.seen R.seen driver) }
+    ensures sound { IfOk result (λ next. IsSound (driver_seen W.seen R.seen next)) }
+    ensures of_module { IfOk result (λ next. RunsFor module_name.now (driver_seen W.seen R.seen next).running) }
+    ensures driven { (wanted : List Wanted) (before after : StarterSeen) → IsDriven wanted before (driver_seen W.seen R.seen driver) after
+        → IfOk result (λ next. IsDriven wanted before (driver_seen W.seen R.seen next) after) }
+{
+    let Driver { done, running } = driver;
+    let Some(link) = running else {
+        return Ok(Driver {
+            done,
+            running: None,
+        });
+    };
+    if link.module_name.bytes() == module_name {
+        return Ok(Driver {
+            done,
+            running: Some(link),
+        });
+    }
+    let done = with_retired(done, link)?;
+    Ok(Driver {
+        done,
+        running: None,
+    })
+}

@@ -1,0 +1,185 @@
+// What became of the keys that were asked.
+ghost use Rattle.std.specs.Prelude.{◌≡◌, ◌+◌, ◌^◌, ◌<◌, ◌++◌, ◌∷◌, [], length, map, slice_get, option_map, IfOk};
+ghost use Rattle.plugin_frames.specs.Frames.{Tail, IsFrames};
+ghost use Rattle.plugin_frames.specs.Cutting.{payloads_of};
+ghost use Rattle.swift_base.specs.Outside.{SinkSeen, SourceSeen};
+ghost use Rattle.link_driver.specs.Links.{link_seen};
+ghost use Rattle.link_driver.specs.LinkTable.{no_reply, greets_badly, is_length, is_next, missing_by, replied, outcome_at, each_below, IsLinkTable, decided, AreLinkPairs, IsRunTable};
+
+use crate::link::{Closed, Stop, Unstarted};
+use crate::messages::{greets_badly, reply_outcome};
+use plugin_frames::{FrameReader, Refusal as FrameRefusal, frames_are_read};
+use plugin_messages::{Cause, Outcome};
+use std::alloc::{AllocError, Global};
+use swift_base::{Sink, Source};
+use unique_names::Key;
+
+// The payloads that a process gave, and whether a length above the limit stands behind them.
+#[derive(Drop)]
+struct Given {
+    payloads: Vec<Vec<u8>>,
+    too_long: bool,
+}
+
+fn given_in(alloc: Global, got: &[u8]) -> Result<Given, AllocError>
+    ensures { IfOk result (λ g. (tail : Tail) × IsFrames got.now (payloads_of g.payloads.items) tail × (g.too_long ≡ is_length tail)) }
+{
+    frames_are_read();
+    let mut frames = FrameReader::new(alloc);
+    let mut payloads = Vec::new(alloc);
+    let too_long = match frames.feed(got, &mut payloads) {
+        Ok(()) => false,
+        Err(FrameRefusal::Memory) => return Err(AllocError),
+        Err(FrameRefusal::Fault(_)) => true,
+    };
+    Ok(Given { payloads, too_long })
+}
+
+fn missing(too_long: bool, stop: Stop) -> Option<Outcome>
+    ensures { result ≡ missing_by too_long stop }
+{
+    if too_long {
+        return Some(Outcome::Failed(Cause::NoReply));
+    }
+    match stop {
+        Stop::Ended | Stop::Failed => Some(Outcome::Failed(Cause::NoReply)),
+        Stop::Overrun => None,
+    }
+}
+
+fn replied(
+    alloc: Global,
+    payload: Option<&Vec<u8>>,
+    too_long: bool,
+    stop: Stop,
+) -> Result<Option<Outcome>, AllocError>
+    ensures { IfOk result (λ o. o ≡ replied (option_map (λ p. p.now.items) payload.entry) too_long stop) }
+{
+    match payload {
+        Some(payload) => Ok(Some(reply_outcome(alloc, payload)?)),
+        None => Ok(missing(too_long, stop)),
+    }
+}
+
+fn is_next(number: usize, payloads: &[Vec<u8>]) -> bool
+    requires { number + 1 < 2 ^ 64 }
+    ensures { result ≡ is_next number (payloads_of payloads.now) }
+{
+    payloads.len() == number + 1 || (number == 0 && payloads.is_empty())
+}
+
+#[tactic(auto, unfolding(crate::specs::LinkTable::outcome_at))]
+fn outcome_at(
+    alloc: Global,
+    count: usize,
+    given: &Given,
+    stop: Stop,
+    write_failed: bool,
+    number: usize,
+) -> Result<Option<Outcome>, AllocError>
+    requires { number < count }
+    ensures { IfOk result (λ o. o ≡ outcome_at count (payloads_of given.now.payloads.items) given.now.too_long stop write_failed number) }
+{
+    if write_failed && number + 1 == count {
+        return Ok(Some(Outcome::Failed(Cause::NoReply)));
+    }
+    let bad = greets_badly(alloc, &given.payloads)?;
+    if number == 0 && bad {
+        return Ok(Some(Outcome::Failed(Cause::NoReply)));
+    }
+    let too_long = given.too_long && is_next(number, &given.payloads);
+    replied(alloc, given.payloads.get(number + 1), too_long, stop)
+}
+
+/// The outcomes of a process's keys, in their order: none for a key that may still have been answered.
+pub fn link_table<W: Drop, R: Drop>(
+    alloc: Global,
+    link: &Closed<W, R>,
+) -> Result<Vec<Option<Outcome>>, AllocError>
+    ensures { IfOk result (λ table. IsLinkTable (length link.now.asked.items) link.now.got.items link.now.stop link.now.write_failed table.items) }
+{
+    let given = given_in(alloc, &link.got)?;
+    let count = link.asked.len();
+    let mut table = Vec::new(alloc);
+    'keys: for number in 0..count {
+        let outcome = outcome_at(alloc, count, &given, link.stop, link.write_failed, number)?;
+        table.push(outcome)?;
+    }
+    Ok(table)
+}
+
+fn put_outcome(
+    key: &Key,
+    outcome: Option<Outcome>,
+    pairs: &mut Vec<(Key, Outcome)>,
+) -> Result<(), AllocError>
+    ensures { IfOk result (λ _. pairs.new.items ≡ pairs.old.items ++ decided (key.now ∷ []) (outcome ∷ [])) }
+{
+    match outcome {
+        Some(outcome) => {
+            pairs.push((key.clone()?, outcome))?;
+            Ok(())
+        }
+        None => Ok(()),
+    }
+}
+
+fn put_failure(entry: &Unstarted, pairs: &mut Vec<(Key, Outcome)>) -> Result<(), AllocError>
+    ensures { IfOk result (λ _. pairs.new.items ≡ pairs.old.items ++ (entry.now.key, no_reply) ∷ []) }
+{
+    pairs.push((entry.key.clone()?, Outcome::Failed(Cause::NoReply)))?;
+    Ok(())
+}
+
+fn put_failures(unstarted: &[Unstarted], pairs: &mut Vec<(Key, Outcome)>) -> Result<(), AllocError>
+    ensures { IfOk result (λ _. pairs.new.items ≡ pairs.old.items ++ map (λ entry. (entry.key, no_reply)) unstarted.now) }
+{
+    'entries: for entry in unstarted {
+        put_failure(entry, pairs)?;
+    }
+    Ok(())
+}
+
+// Appends the keys of a process that have an outcome, with it.
+fn put_link<W: Drop, R: Drop>(
+    alloc: Global,
+    link: &Closed<W, R>,
+    pairs: &mut Vec<(Key, Outcome)>,
+) -> Result<(), AllocError>
+    ensures { IfOk result (λ _. (outcomes : _) × IsLinkTable (length link.now.asked.items) link.now.got.items link.now.stop link.now.write_failed outcomes
+        × (pairs.new.items ≡ pairs.old.items ++ decided link.now.asked.items outcomes)) }
+{
+    let given = given_in(alloc, &link.got)?;
+    let count = link.asked.len();
+    'keys: for number in 0..count {
+        let outcome = outcome_at(alloc, count, &given, link.stop, link.write_failed, number)?;
+        put_outcome(&link.asked[number], outcome, pairs)?;
+    }
+    Ok(())
+}
+
+fn link_pairs<W: Sink, R: Source>(
+    alloc: Global,
+    links: &[Closed<W, R>],
+) -> Result<Vec<(Key, Outcome)>, AllocError>
+    ensures { IfOk result (λ pairs. AreLinkPairs (map (link_seen W.seen R.seen) links.now) pairs.items) }
+{
+    let mut pairs = Vec::new(alloc);
+    'links: for link in links {
+        put_link(alloc, link, &mut pairs)?;
+    }
+    Ok(pairs)
+}
+
+/// The keys that have an outcome, with it: those of each process in order, and then a failure for each failed start.
+pub fn run_table<W: Sink, R: Source>(
+    alloc: Global,
+    links: &[Closed<W, R>],
+    unstarted: &[Unstarted],
+) -> Result<Vec<(Key, Outcome)>, AllocError>
+    ensures { IfOk result (λ pairs. IsRunTable (map (link_seen W.seen R.seen) links.now) unstarted.now pairs.items) }
+{
+    let mut pairs = link_pairs(alloc, links)?;
+    put_failures(unstarted, &mut pairs)?;
+    Ok(pairs)
+}
