@@ -1,5 +1,5 @@
 -- What stands before and behind the first comma of a row of elements.
-use Rattle.std.proofs.Common.{◌≡◌, ℕ, zero, suc, ◌+◌, ◌<◌, ◌≤◌, ◌==◌, ◌&&◌, Bool, true, false, cond, List, [], ◌∷◌, ◌++◌, length, map, append_assoc, take, drop, refl, sym, ap, ◌∙◌, arith, Bor}
+use Rattle.std.proofs.Common.{◌≡◌, ℕ, suc, ◌+◌, ◌<◌, ◌≤◌, ◌==◌, ◌&&◌, Bool, true, false, cond, List, [], ◌∷◌, ◌++◌, length, map, append_assoc, take, drop, refl, sym, ap, ◌∙◌, arith, Bor}
 use Rattle.std.proofs.lemmas.List.{drop-map, length-map, map_push, take-map, take_all}
 use Rattle.swift_lexer.specs.declared.element.Element.{Element}
 use Rattle.swift_lexer.specs.Trees.{Tree, tree_of}

@@ -33,7 +33,7 @@ faults-further before all i written faults more repeated found inside is repeats
     let rest : List MacroFault = faults_from (written.name ∷ before) (drop (i + 1) all) in
     ap (λ (l : List MacroFault). l ++ rest) put ∙ append_assoc faults (with_fault written found []) rest
     ∙ ap (λ (l : List MacroFault). faults ++ l)
-        (with_fault-more written found rest
-        ∙ ap (λ (o : Option Found). with_fault written o rest) (fault ∙ ap (λ b. first_fault b written) repeats)
-        ∙ ap (λ (w : MacroWritten). faults_from before (w ∷ drop (i + 1) all)) is
-        ∙ sym (at_drop_more (faults_from before) all i written inside))
+    (with_fault-more written found rest
+    ∙ ap (λ (o : Option Found). with_fault written o rest) (fault ∙ ap (λ b. first_fault b written) repeats)
+    ∙ ap (λ (w : MacroWritten). faults_from before (w ∷ drop (i + 1) all)) is
+    ∙ sym (at_drop_more (faults_from before) all i written inside))

@@ -1,5 +1,5 @@
 -- Where no declaration is at fault, no name stands twice.
-use Rattle.std.proofs.Common.{◌≡◌, ℕ, Bool, true, false, not, cond, ◌||◌, Option, Some, None, List, [], ◌∷◌, ◌++◌, ◌==◌, length, filter_map, option_map, refl, sym, ap, subst, ◌∙◌, true≢false}
+use Rattle.std.proofs.Common.{◌≡◌, ℕ, Bool, true, false, cond, ◌||◌, Option, Some, None, List, [], ◌∷◌, ◌++◌, ◌==◌, length, filter_map, option_map, refl, sym, ap, ◌∙◌, true≢false}
 use Rattle.std.proofs.lemmas.Bool.{eqb-true}
 use Rattle.std.proofs.lemmas.List.{nil_from_length}
 use Rattle.std.specs.List.{cons_option}
@@ -54,11 +54,11 @@ fresh-from before done [] covers none = tt
 fresh-from before done (written ∷ others) covers none =
     let first = new-name (is_among before written.name) written (faults_from (written.name ∷ before) others) none in
     let others_covered : (name : List ℕ) → is_among (written.name ∷ before) name ≡ false → declaration_named name done ≡ None =
-        λ name h. covers name (or-right (bytes_eq name written.name) (is_among before name) h) in
+    λ name h. covers name (or-right (bytes_eq name written.name) (is_among before name) h) in
     fresh-step done (filter_map declared others) written written.external (covers written.name first.0)
-        (fresh-from (written.name ∷ before) done others others_covered first.1)
-        (λ external. fresh-from (written.name ∷ before) (done ++ declared_by written external ∷ []) others
-            (λ name h. named-push name done (declared_by written external) (others_covered name h) (or-left (bytes_eq name written.name) (is_among before name) h)) first.1)
+    (fresh-from (written.name ∷ before) done others others_covered first.1)
+    (λ external. fresh-from (written.name ∷ before) (done ++ declared_by written external ∷ []) others
+    (λ name h. named-push name done (declared_by written external) (others_covered name h) (or-left (bytes_eq name written.name) (is_among before name) h)) first.1)
 
 -- the declarations of macros without fault
 pub fresh : (all : List MacroWritten) → faults_from [] all ≡ [] → AreFresh [] (filter_map declared all)

@@ -1,12 +1,11 @@
 -- What names an implementation is UTF-8.
-use Rattle.std.proofs.Common.{◌≡◌, refl, sym, ap, subst, ◌∙◌, ℕ, zero, suc, ◌+◌, ◌-◌, List, [], ◌∷◌, ◌++◌, map, filter, filter_map, slice_range, Option, Some, None, Result, Ok, Err, Bool, true, false, ◌&&◌, if◌then◌else◌, IfOk}
+use Rattle.std.proofs.Common.{◌≡◌, refl, sym, subst, ℕ, zero, suc, ◌+◌, ◌-◌, List, [], ◌∷◌, map, filter, filter_map, Option, Some, None, Result, Ok, Err, Bool, true, false, ◌&&◌, if◌then◌else◌, IfOk}
 use Rattle.std.specs.Prelude.{not, option_map, option_and_then}
 use Rattle.std.specs.List.{All, AllByRecursion, cons_option}
 use Rattle.std.specs.Option.{IfSome, option_or}
-use Rattle.std.specs.Str.{IsCharBoundary, IsUtf8}
+use Rattle.std.specs.Str.{IsUtf8}
 use Rattle.std.proofs.lemmas.List.Elements.{All-from_recursion}
 use Rattle.swift_base.specs.declared.refusal.Refusal.{Refusal}
-use Rattle.swift_base.specs.declared.refusal.Refusal.TheVariants.{Memory, Fault}
 use Rattle.swift_lexer.specs.declared.token.Class.{Class}
 use Rattle.swift_lexer.specs.declared.token.Class.TheVariants as class
 use Rattle.swift_lexer.specs.declared.token.Token.{Token}
@@ -86,7 +85,7 @@ module _ (text : List ℕ) (utf8 : IsUtf8 text) where
   inside_readable : (token : Token) → IsPlaced text token → token.class ≡ class.Str → begins_with_quote (bytes_of text token) ≡ true → IsUtf8 (inside_of text token)
   inside_readable token placed is quote =
       subst IsUtf8 (sym (inside-is text token.start (token.end - 1)))
-          (utf8_between text (token.start + 1) (token.end - 1) utf8 (behind_quote text token utf8 placed.0 quote) (before_last text token placed.0 is))
+      (utf8_between text (token.start + 1) (token.end - 1) utf8 (behind_quote text token utf8 placed.0 quote) (before_last text token placed.0 is))
 
   quoted_readable : (token : Token) → IsPlaced text token → IfSome (quoted text token) IsUtf8
   quoted_readable token placed =
@@ -106,12 +105,12 @@ module _ (text : List ℕ) (utf8 : IsUtf8 text) where
   of_readable : (trees : List Tree) → AreTreesPlaced text trees → IfSome (external_of text trees) IsExternalReadable
   of_readable trees each =
       held_if IsExternalReadable (names_external text trees) (external_by (quoted_at text trees 2) (quoted_at text trees 6))
-          (by_readable (quoted_at text trees 2) (quoted_at text trees 6) (quoted_at_readable trees 2 each) (quoted_at_readable trees 6 each))
+      (by_readable (quoted_at text trees 2) (quoted_at text trees 6) (quoted_at_readable trees 2 each) (quoted_at_readable trees 6 each))
 
   at_readable : (trees : List Tree) → AreTreesPlaced text trees → IfSome (external_at text trees) IsExternalReadable
   at_readable trees each =
       held_if IsExternalReadable _ (option_and_then (external_of text) (round_at text trees 2))
-          (held_then (AreTreesPlaced text) IsExternalReadable (external_of text) (round_at text trees 2) of_readable (round_placed text trees 2 each))
+      (held_then (AreTreesPlaced text) IsExternalReadable (external_of text) (round_at text trees 2) of_readable (round_placed text trees 2 each))
 
   in_readable : (trees : List Tree) → AreTreesPlaced text trees → IfSome (external_in text trees) IsExternalReadable
   in_readable [] each = tt
@@ -141,8 +140,8 @@ all_written : (outline : ℕ) (outlines : List OutlineSeen) → AllByRecursion I
 all_written outline [] = tt
 all_written outline (seen ∷ others) =
     each_append IsWrittenReadable (written_in outline seen) (written_from (suc outline) others)
-        (all_mapped IsWrittenReadable (macro_written outline seen.text) (head_readable outline seen.text) (filter (λ head. is_macro head.kind) (outer_heads seen.items)))
-        (all_written (suc outline) others)
+    (all_mapped IsWrittenReadable (macro_written outline seen.text) (head_readable outline seen.text) (filter (λ head. is_macro head.kind) (outer_heads seen.items)))
+    (all_written (suc outline) others)
 
 put_readable : (written : MacroWritten) (o : Option External) (more : List MacroDecl) → IfSome o IsExternalReadable → AllByRecursion IsDeclReadable more
     → AllByRecursion IsDeclReadable (cons_option (option_map (declared_by written) o) more)

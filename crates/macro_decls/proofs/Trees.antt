@@ -32,8 +32,8 @@ module _ (text : List ℕ) where
   nest-text element left inner right is =
       ap (λ (e : Element). flat_map (bytes_of text) (tree_tokens (tree_of e))) is ∙ ap (λ (t : Tree). flat_map (bytes_of text) (tree_tokens t)) (tree_of-nest left inner right)
       ∙ ap (λ (l : List ℕ). bytes_of text left ++ l)
-          (flat_map-append (bytes_of text) (forest_tokens (forest_of inner.items)) (right ∷ [])
-          ∙ ap (λ (l : List ℕ). flat_map (bytes_of text) (forest_tokens (forest_of inner.items)) ++ l) (append-nil (bytes_of text right)))
+      (flat_map-append (bytes_of text) (forest_tokens (forest_of inner.items)) (right ∷ [])
+      ∙ ap (λ (l : List ℕ). flat_map (bytes_of text) (forest_tokens (forest_of inner.items)) ++ l) (append-nil (bytes_of text right)))
 
   -- a group is put behind what stands before it: its left bracket, its parts, of which none is left, and its right bracket
   pub nest-put : (element : Element) (left : Token) (inner : Vec Element Global) (right : Token) → element ≡ Nest left inner right

@@ -1,5 +1,5 @@
 -- The arguments of an attribute: this project's own, after SE-0389 and SE-0402.
-use Rattle.std.specs.Prelude.{ℕ, suc, ◌+◌, ◌==◌, ◌&&◌, not, if◌then◌else◌, Bool, true, false, Option, Some, None, option_and_then, option_map, List, [], ◌∷◌, map, drop, count_by, codes}
+use Rattle.std.specs.Prelude.{ℕ, suc, ◌+◌, ◌==◌, ◌&&◌, not, if◌then◌else◌, Bool, true, false, Option, Some, None, option_map, List, [], ◌∷◌, map, drop, count_by, codes}
 use Rattle.std.specs.Str.{bytes_eq}
 use Rattle.swift_lexer.specs.declared.token.Token.{Token}
 use Rattle.swift_lexer.specs.declared.token.Class.{Class}

@@ -1,5 +1,5 @@
 -- What stands in a row of elements. This project's own.
-use Rattle.std.specs.Prelude.{ℕ, ◌-◌, if◌then◌else◌, Bool, true, false, Option, Some, None, List, [], ◌∷◌, map, drop, slice_get, slice_range, option_and_then, codes}
+use Rattle.std.specs.Prelude.{ℕ, ◌-◌, if◌then◌else◌, Bool, true, false, Option, Some, None, List, [], ◌∷◌, drop, slice_get, slice_range, option_and_then, codes}
 use Rattle.std.specs.List.{flat_map}
 use Rattle.std.specs.Option.{option_map_or}
 use Rattle.std.specs.Str.{bytes_eq}
@@ -7,7 +7,7 @@ use Rattle.swift_base.specs.declared.place.Span.{Span}
 use Rattle.swift_lexer.specs.declared.token.Token.{Token}
 use Rattle.swift_lexer.specs.declared.token.Class.{Class}
 use Rattle.swift_lexer.specs.declared.token.Class.TheVariants as class
-use Rattle.swift_lexer.specs.Trees.{Tree, leaf, nest, Forest, none, cons, tree_tokens, tree_of, forest_of}
+use Rattle.swift_lexer.specs.Trees.{Tree, leaf, nest, Forest, none, cons, tree_tokens, forest_of}
 use Rattle.swift_lexer.specs.Tiles.{bytes_of}
 use Rattle.macro_decls.specs.declared.elements.Shape.{Shape}
 use Rattle.macro_decls.specs.declared.elements.Shape.TheVariants as shape

@@ -1,5 +1,5 @@
 -- What is wrong with the declaration of a macro: this project's own, after SE-0382, SE-0389 and SE-0402.
-use Rattle.std.specs.Prelude.{ℕ, ◌==◌, ◌||◌, if◌then◌else◌, Bool, true, false, is_none, Option, Some, None, option_map, List, [], ◌∷◌, ◌++◌, length, find, filter, slice_get}
+use Rattle.std.specs.Prelude.{ℕ, ◌==◌, if◌then◌else◌, Bool, true, false, is_none, Option, Some, None, List, [], ◌∷◌, ◌++◌, length, find, filter, slice_get}
 use Rattle.std.specs.List.{list_any}
 use Rattle.std.specs.Option.{option_or}
 use Rattle.std.specs.Str.{bytes_eq}

@@ -1,6 +1,5 @@
 -- The macros that outlines declare, or what is wrong with their declarations (SE-0382, SE-0389, SE-0397, SE-0402).
-use Rattle.std.specs.Prelude.{ℕ, suc, if◌then◌else◌, Bool, true, false, Option, Some, None, option_map, Result, Ok, Err, List, [], ◌∷◌, ◌++◌, map, filter, filter_map, find}
-use Rattle.std.specs.List.{AllByRecursion}
+use Rattle.std.specs.Prelude.{ℕ, suc, Bool, true, false, Option, Some, None, option_map, Result, Ok, Err, List, [], ◌∷◌, ◌++◌, map, filter, filter_map, find}
 use Rattle.std.specs.Str.{IsUtf8, bytes_eq}
 use Rattle.swift_base.specs.declared.place.Span.{Span}
 use Rattle.swift_tree.specs.declared.item.Kind.{Kind}

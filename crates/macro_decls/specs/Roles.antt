@@ -1,9 +1,8 @@
 -- The attributes that give a macro its roles (SE-0382, SE-0389, SE-0397, SE-0402).
-use Rattle.std.specs.Prelude.{ℕ, ◌==◌, ◌&&◌, ◌||◌, not, if◌then◌else◌, Bool, true, false, Option, Some, None, option_and_then, Result, Ok, Err, List, [], ◌∷◌, length, drop, slice_get, codes}
+use Rattle.std.specs.Prelude.{ℕ, ◌==◌, ◌&&◌, ◌||◌, not, if◌then◌else◌, Bool, true, false, Option, Some, None, option_and_then, Result, Ok, Err, List, [], length, drop, slice_get, codes}
 use Rattle.std.specs.Option.{option_map_or}
 use Rattle.std.specs.Str.{bytes_eq}
 use Rattle.swift_base.specs.declared.place.Span.{Span}
-use Rattle.swift_lexer.specs.declared.token.Token.{Token}
 use Rattle.swift_lexer.specs.Trees.{Tree, leaf, nest, Forest}
 use Rattle.swift_lexer.specs.Tiles.{bytes_of}
 use Rattle.swift_tree.specs.declared.item.Attr.{Attr}
@@ -13,7 +12,7 @@ use Rattle.unique_names.specs.Roles.{role_of}
 use Rattle.unique_names.specs.declared.role.Role.{Role}
 use Rattle.unique_names.specs.declared.role.Role.TheVariants as role
 use Rattle.macro_decls.specs.Elements.{text_at, trees_in, word_at}
-use Rattle.macro_decls.specs.Arguments.{Argument, cut, arguments}
+use Rattle.macro_decls.specs.Arguments.{cut, arguments}
 use Rattle.macro_decls.specs.Rules.{names_in, conformances_in}
 use Rattle.macro_decls.specs.declared.written.RoleWritten.{RoleWritten}
 

@@ -1,7 +1,6 @@
 -- What stands behind `names:` (SE-0389) and behind `conformances:` (SE-0402).
-use Rattle.std.specs.Prelude.{ℕ, ◌==◌, ◌&&◌, ◌||◌, not, nat_le, if◌then◌else◌, Bool, true, false, is_some, is_none, Option, Some, None, option_and_then, option_map, List, [], ◌∷◌, length, map, filter, count_by, codes}
+use Rattle.std.specs.Prelude.{ℕ, ◌==◌, ◌&&◌, ◌||◌, not, nat_le, if◌then◌else◌, Bool, true, false, is_some, Option, Some, None, option_and_then, option_map, List, [], ◌∷◌, length, count_by, codes}
 use Rattle.std.specs.List.{list_any}
-use Rattle.std.specs.Option.{option_or}
 use Rattle.swift_lexer.specs.declared.token.Token.{Token}
 use Rattle.swift_lexer.specs.declared.token.Class.{Class}
 use Rattle.swift_lexer.specs.declared.token.Class.TheVariants as class

@@ -48,10 +48,7 @@ fn quoted(text: &[u8], token: Token) -> Option<&[u8]>
     ensures { option_copied result ≡ quoted text.now token }
 {
     let inside = inside_of(text, token);
-    if is_string(token.class)
-        && begins_with_quote(bytes_of(text, token))
-        && !holds_escape(inside)
-    {
+    if is_string(token.class) && begins_with_quote(bytes_of(text, token)) && !holds_escape(inside) {
         return Some(inside);
     }
     None

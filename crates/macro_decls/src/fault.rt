@@ -110,10 +110,10 @@ fn second_freestanding(roles: &[RoleWritten]) -> Option<&RoleWritten>
     ensures { option_copied result ≡ second_freestanding roles.now }
 {
     let mut passed = false;
-    'roles: for role in roles {
-        if role.freestanding {
+    'roles: for one in roles {
+        if one.freestanding {
             if passed {
-                return Some(role);
+                return Some(one);
             }
             passed = true;
         }
@@ -142,17 +142,10 @@ fn first_fault(repeated: bool, written: &MacroWritten) -> Option<Found>
     at_name(written, MacroKind::Duplicate, repeated)
         .or(at_name(written, MacroKind::NoRole, roles.is_empty()))
         .or(at_role(MacroKind::BadRole, bad_role(roles)))
-        .or(at_role(
-            MacroKind::BothFreestanding,
-            second_freestanding(roles),
-        ))
+        .or(at_role(MacroKind::BothFreestanding, second_freestanding(roles)))
         .or(at_role(MacroKind::BadNames, bad_names(roles)))
         .or(at_role(MacroKind::BadConformances, bad_conformances(roles)))
-        .or(at_name(
-            written,
-            MacroKind::NotExternal,
-            written.external.is_none(),
-        ))
+        .or(at_name(written, MacroKind::NotExternal, written.external.is_none()))
 }
 
 fn put_fault(

@@ -27,8 +27,8 @@ fn name_of(text: &[u8], token: Token) -> Option<&[u8]>
 fn named<'a>(text: &'a [u8], elements: &[Element]) -> Option<&'a [u8]>
     ensures { option_copied result ≡ named text.now (map tree_of elements.now) }
 {
-    let fits =
-        elements.len() == 1 || (elements.len() == 2 && round_at(text, elements, 1).is_some());
+    let fits = elements.len() == 1
+        || (elements.len() == 2 && round_at(text, elements, 1).is_some());
     if !fits {
         return None;
     }

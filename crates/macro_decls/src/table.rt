@@ -96,10 +96,7 @@ fn role_declared(written: RoleWritten) -> Option<RoleDecl>
     }
 }
 
-fn roles_declared(
-    alloc: Global,
-    written: Vec<RoleWritten>,
-) -> Result<Vec<RoleDecl>, AllocError>
+fn roles_declared(alloc: Global, written: Vec<RoleWritten>) -> Result<Vec<RoleDecl>, AllocError>
     ensures { IfOk result (λ roles. roles.items ≡ filter_map role_declared written.items) }
 {
     let mut roles = Vec::new(alloc);
@@ -122,10 +119,12 @@ fn declared(alloc: Global, written: MacroWritten) -> Result<Option<MacroDecl>, A
         roles,
         external,
     } = written;
-    let Some(External {
-        module_name,
-        type_name,
-    }) = external
+    let Some(
+        External {
+            module_name,
+            type_name,
+        },
+    ) = external
     else {
         return Ok(None);
     };
@@ -180,10 +179,7 @@ fn table_of(alloc: Global, declarations: Vec<MacroDecl>) -> Result<MacroTable, A
 }
 
 #[tactic(auto, unfolding(crate::specs::Macros::macros))]
-fn macros(
-    alloc: Global,
-    outlines: &[&Outline],
-) -> Result<MacroTable, Refusal<Listed<MacroFault>>>
+fn macros(alloc: Global, outlines: &[&Outline]) -> Result<MacroTable, Refusal<Listed<MacroFault>>>
     requires { length outlines.now < 2 ^ 32 }
     ensures { Answers (λ table. table) result (λ outcome. outcome ≡ macros (map (λ outline. outline_of outline.now) outlines.now)) }
 {

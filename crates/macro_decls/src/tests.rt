@@ -4,22 +4,44 @@ use super::*;
 use decl_parser::parse_file;
 use role_names::NameRule;
 use std::alloc::{AllocError, Global};
+use std::fmt::Write;
 use std::process::Abort;
 use std::test::Fail;
-use std::fmt::Write;
-use swift_base::{Refusal, Text};
+use swift_base::{Listed, Refusal, Text};
+use swift_tree::Outline;
 
-/// The faults of texts: in a line each, outline, offset, name and kind.
-fn faults_in(alloc: Global, texts: &[&str]) -> Result<String, Fail> {
+fn parsed(alloc: Global, texts: &[&str]) -> Result<Vec<Outline>, Fail> {
     let mut outlines = Vec::new(alloc);
     for text in texts {
         outlines.push(parse_file(alloc, text.as_bytes())?)?;
     }
+    Ok(outlines)
+}
+
+fn references(alloc: Global, outlines: &[Outline]) -> Result<Vec<&Outline>, AllocError> {
     let mut seen = Vec::new(alloc);
-    for outline in &outlines {
+    for outline in outlines {
         seen.push(outline)?;
     }
-    match MacroTable::from_outlines(alloc, &seen) {
+    Ok(seen)
+}
+
+/// The table of at most a hundred outlines.
+fn table_of(
+    alloc: Global,
+    outlines: &[Outline],
+) -> Result<MacroTable, Refusal<Listed<MacroFault>>> {
+    let seen = references(alloc, outlines)?;
+    if seen.len() > 100 {
+        return Err(Refusal::Memory);
+    }
+    MacroTable::from_outlines(alloc, &seen)
+}
+
+/// The faults of texts: in a line each, outline, offset, name and kind.
+fn faults_in(alloc: Global, texts: &[&str]) -> Result<String, Fail> {
+    let outlines = parsed(alloc, texts)?;
+    match table_of(alloc, &outlines) {
         Ok(_) => Ok(String::new(alloc)),
         Err(Refusal::Memory) => Err(AllocError.into()),
         Err(Refusal::Fault(faults)) => lines_of(alloc, faults.items()),
@@ -30,7 +52,11 @@ fn lines_of(alloc: Global, faults: &[MacroFault]) -> Result<String, Fail> {
     let mut lines = String::new(alloc);
     for fault in faults {
         let name = str_of(&fault.name);
-        write!(lines, "{} {} {} {:?}\n", fault.outline, fault.at, name, fault.kind)?;
+        write!(
+            lines,
+            "{} {} {} {:?}\n",
+            fault.outline, fault.at, name, fault.kind
+        )?;
     }
     Ok(lines)
 }
@@ -58,39 +84,155 @@ const FAULTY: [(&str, MacroKind, u32); 43] = [
     ("@attached macro a()", MacroKind::BadRole, 0),
     ("@attached() macro a()", MacroKind::BadRole, 0),
     ("@attached(`peer`) macro a()", MacroKind::BadRole, 0),
-    ("@attached(names: arbitrary) macro a()", MacroKind::BadRole, 0),
+    (
+        "@attached(names: arbitrary) macro a()",
+        MacroKind::BadRole,
+        0,
+    ),
     ("@attached(peer member) macro a()", MacroKind::BadRole, 0),
     ("@attached((peer)) macro a()", MacroKind::BadRole, 0),
-    ("@attached(peer) @attached(peer) macro a()", MacroKind::BadRole, 16),
-    ("@attached(peer, x) @freestanding(expression) @freestanding(expression) macro a()", MacroKind::BadRole, 45),
-    ("@freestanding(expression) @attached(peer, x) @freestanding(declaration) macro a()", MacroKind::BothFreestanding, 45),
+    (
+        "@attached(peer) @attached(peer) macro a()",
+        MacroKind::BadRole,
+        16,
+    ),
+    (
+        "@attached(peer, x) @freestanding(expression) @freestanding(expression) macro a()",
+        MacroKind::BadRole,
+        45,
+    ),
+    (
+        "@freestanding(expression) @attached(peer, x) @freestanding(declaration) macro a()",
+        MacroKind::BothFreestanding,
+        45,
+    ),
     ("@attached(peer, names: ) macro a()", MacroKind::BadNames, 0),
-    ("@attached(peer, names: foo) macro a()", MacroKind::BadNames, 0),
-    ("@attached(peer, names: named) macro a()", MacroKind::BadNames, 0),
-    ("@attached(peer, names: named()) macro a()", MacroKind::BadNames, 0),
-    ("@attached(peer, names: named(a b)) macro a()", MacroKind::BadNames, 0),
-    ("@attached(peer, names: named(a[b])) macro a()", MacroKind::BadNames, 0),
-    ("@attached(peer, names: named(a)(b)) macro a()", MacroKind::BadNames, 0),
-    ("@attached(peer, names: named[a]) macro a()", MacroKind::BadNames, 0),
-    ("@attached(peer, names: named(1)) macro a()", MacroKind::BadNames, 0),
-    ("@attached(peer, names: named(\"a\")) macro a()", MacroKind::BadNames, 0),
-    ("@attached(peer, names: overloaded(a)) macro a()", MacroKind::BadNames, 0),
-    ("@attached(peer, names: foo(a)) macro a()", MacroKind::BadNames, 0),
-    ("@attached(peer, names: named(a), arbitrary,) macro a()", MacroKind::BadNames, 0),
-    ("@attached(peer, names: named(a), , arbitrary) macro a()", MacroKind::BadNames, 0),
-    ("@attached(peer, names: named(a) arbitrary) macro a()", MacroKind::BadNames, 0),
-    ("@attached(peer, x) @attached(member, names: x) macro a()", MacroKind::BadNames, 19),
-    ("@attached(peer) @attached(member, names: x) @attached(accessor, names: x) macro a()", MacroKind::BadNames, 16),
-    ("@attached(peer, x) macro a()", MacroKind::BadConformances, 0),
+    (
+        "@attached(peer, names: foo) macro a()",
+        MacroKind::BadNames,
+        0,
+    ),
+    (
+        "@attached(peer, names: named) macro a()",
+        MacroKind::BadNames,
+        0,
+    ),
+    (
+        "@attached(peer, names: named()) macro a()",
+        MacroKind::BadNames,
+        0,
+    ),
+    (
+        "@attached(peer, names: named(a b)) macro a()",
+        MacroKind::BadNames,
+        0,
+    ),
+    (
+        "@attached(peer, names: named(a[b])) macro a()",
+        MacroKind::BadNames,
+        0,
+    ),
+    (
+        "@attached(peer, names: named(a)(b)) macro a()",
+        MacroKind::BadNames,
+        0,
+    ),
+    (
+        "@attached(peer, names: named[a]) macro a()",
+        MacroKind::BadNames,
+        0,
+    ),
+    (
+        "@attached(peer, names: named(1)) macro a()",
+        MacroKind::BadNames,
+        0,
+    ),
+    (
+        "@attached(peer, names: named(\"a\")) macro a()",
+        MacroKind::BadNames,
+        0,
+    ),
+    (
+        "@attached(peer, names: overloaded(a)) macro a()",
+        MacroKind::BadNames,
+        0,
+    ),
+    (
+        "@attached(peer, names: foo(a)) macro a()",
+        MacroKind::BadNames,
+        0,
+    ),
+    (
+        "@attached(peer, names: named(a), arbitrary,) macro a()",
+        MacroKind::BadNames,
+        0,
+    ),
+    (
+        "@attached(peer, names: named(a), , arbitrary) macro a()",
+        MacroKind::BadNames,
+        0,
+    ),
+    (
+        "@attached(peer, names: named(a) arbitrary) macro a()",
+        MacroKind::BadNames,
+        0,
+    ),
+    (
+        "@attached(peer, x) @attached(member, names: x) macro a()",
+        MacroKind::BadNames,
+        19,
+    ),
+    (
+        "@attached(peer) @attached(member, names: x) @attached(accessor, names: x) macro a()",
+        MacroKind::BadNames,
+        16,
+    ),
+    (
+        "@attached(peer, x) macro a()",
+        MacroKind::BadConformances,
+        0,
+    ),
     ("@attached(peer,) macro a()", MacroKind::BadConformances, 0),
-    ("@attached(peer, other: x) macro a()", MacroKind::BadConformances, 0),
-    ("@attached(peer, names: named(a), names: named(b)) macro a()", MacroKind::BadConformances, 0),
-    ("@attached(member, conformances: P) macro a()", MacroKind::BadConformances, 0),
-    ("@attached(extension, conformances:) macro a()", MacroKind::BadConformances, 0),
-    ("@attached(extension, conformances: P,) macro a()", MacroKind::BadConformances, 0),
-    ("@attached(extension, conformances: P, , Q) macro a()", MacroKind::BadConformances, 0),
-    ("@attached(extension, conformances: P, conformances: Q) macro a()", MacroKind::BadConformances, 0),
-    ("@attached(peer) @attached(member, x) @attached(accessor, x) macro a()", MacroKind::BadConformances, 16),
+    (
+        "@attached(peer, other: x) macro a()",
+        MacroKind::BadConformances,
+        0,
+    ),
+    (
+        "@attached(peer, names: named(a), names: named(b)) macro a()",
+        MacroKind::BadConformances,
+        0,
+    ),
+    (
+        "@attached(member, conformances: P) macro a()",
+        MacroKind::BadConformances,
+        0,
+    ),
+    (
+        "@attached(extension, conformances:) macro a()",
+        MacroKind::BadConformances,
+        0,
+    ),
+    (
+        "@attached(extension, conformances: P,) macro a()",
+        MacroKind::BadConformances,
+        0,
+    ),
+    (
+        "@attached(extension, conformances: P, , Q) macro a()",
+        MacroKind::BadConformances,
+        0,
+    ),
+    (
+        "@attached(extension, conformances: P, conformances: Q) macro a()",
+        MacroKind::BadConformances,
+        0,
+    ),
+    (
+        "@attached(peer) @attached(member, x) @attached(accessor, x) macro a()",
+        MacroKind::BadConformances,
+        16,
+    ),
 ];
 
 #[test]
@@ -133,7 +275,8 @@ fn implementation_not_named(rt: HostRuntime) -> Result<(), Fail> {
 
 #[test]
 fn one_fault_of_each_declaration(rt: HostRuntime) -> Result<(), Fail> {
-    let first = "macro a()\n@attached(peer) macro b() = #externalMacro(module: \"M\", type: \"B\")\nmacro b()";
+    let first =
+        "macro a()\n@attached(peer) macro b() = #externalMacro(module: \"M\", type: \"B\")\nmacro b()";
     let second = "func f() { macro c() }\nmacro c()\n@attached(peer) macro a() = x";
     let faults = faults_in(rt.alloc(), &[first, second])?;
     assert_eq!(rt;
@@ -245,29 +388,24 @@ fn description(alloc: Global, declaration: &MacroDecl) -> Result<String, Fail> {
     Ok(text)
 }
 
-/// The table of all texts, each an outline.
-fn table_of(alloc: Global, texts: &[(&str, &str, &str)]) -> Result<MacroTable, Fail> {
-    let mut outlines = Vec::new(alloc);
-    for (text, _, _) in texts {
-        outlines.push(parse_file(alloc, text.as_bytes())?)?;
-    }
-    let mut seen = Vec::new(alloc);
-    for outline in &outlines {
-        seen.push(outline)?;
-    }
-    Ok(MacroTable::from_outlines(alloc, &seen)?)
-}
-
 #[test]
 fn declarations_of_libraries(rt: HostRuntime) -> Result<(), Fail> {
-    let table = table_of(rt.alloc(), &DECLARED)?;
+    let mut texts = Vec::new(rt.alloc());
+    for (text, _, _) in &DECLARED {
+        texts.push(*text)?;
+    }
+    let table = table_of(rt.alloc(), &parsed(rt.alloc(), &texts)?)?;
     for (text, name, want) in &DECLARED {
         let Some(declaration) = table.find(name.as_bytes()) else {
             assert!(rt; false, "{name} is declared");
             return Ok(());
         };
         assert_eq!(rt; str_of(&declaration.name), *name);
-        assert_eq!(rt; description(rt.alloc(), declaration)?.as_str(), *want, "of {text:?}");
+        assert_eq!(rt;
+            description(rt.alloc(), declaration)?.as_str(),
+            *want,
+            "of {text:?}"
+        );
     }
     assert!(rt; table.find(b"other").is_none());
     Ok(())

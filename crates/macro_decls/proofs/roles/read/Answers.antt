@@ -1,5 +1,4 @@
 use Rattle.std.proofs.Common.{ap, sym, ◌∙◌}
-use Rattle.decl_parser.specs.Outline.{elements_of}
 use Rattle.macro_decls.specs.Roles.{trees_of, trees_read}
 use Rattle.macro_decls.proofs.Trees.{trees_in-forest_of}
 use Rattle.macro_decls.proofs.roles.read.Goals as goal
