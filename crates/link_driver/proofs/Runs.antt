@@ -22,7 +22,7 @@ pub has_run : (wanted : List Wanted) (before after : StarterSeen) (done : Driver
     → HasRun wanted before done.links done.unstarted after
 has_run wanted before after done is_none driven =
     let runs : (driven.requests ≡ []) × (after ≡ driven.between) =
-        subst (λ (r : Option RunningSeen). IsRunning driven.between r driven.requests after) is_none driven.running in
+    subst (λ (r : Option RunningSeen). IsRunning driven.between r driven.requests after) is_none driven.running in
     record {
       turns = driven.turns;
       left = driven.left;
@@ -97,9 +97,10 @@ serve : (before : StarterSeen) (turns : List Turn) (after : StarterSeen) (left :
 serve before [] after left are = tt
 serve before (Process link earlier last ∷ turns) after left (between, is, are) =
     let others : List Wanted = flat_map requests_in turns ++ left in
-    subst (λ (w : List Wanted). Each (IsServedOf w) (link ∷ flat_map links_in turns)) (sym (append_assoc (earlier ++ last ∷ []) (flat_map requests_in turns) left))
-    (record { earlier = earlier; last = last; serves = is.0; wanted_so = begins (earlier ++ last ∷ []) others },
-    each_so (IsServedOf others) (IsServedOf ((earlier ++ last ∷ []) ++ others)) (flat_map links_in turns) (served_behind (earlier ++ last ∷ []) others) (serve between turns after left are))
+    subst (λ (w : List Wanted). Each (IsServedOf w) (link ∷ flat_map links_in turns)) (sym (append_assoc (earlier ++ last ∷ []) (flat_map requests_in turns) left)) (
+      record { earlier = earlier; last = last; serves = is.0; wanted_so = begins (earlier ++ last ∷ []) others },
+      each_so (IsServedOf others) (IsServedOf ((earlier ++ last ∷ []) ++ others)) (flat_map links_in turns) (served_behind (earlier ++ last ∷ []) others) (serve between turns after left are),
+    )
 serve before (Failure entry wanted ∷ turns) after left (between, is, are) =
     let others : List Wanted = flat_map requests_in turns ++ left in
     each_so (IsServedOf others) (IsServedOf (wanted ∷ others)) (flat_map links_in turns) (served_behind (wanted ∷ []) others) (serve between turns after left are)
@@ -123,8 +124,7 @@ gave_more : (before between after : Option (List (List ℕ))) (link : LinkSeen) 
 gave_more None between after link links taken gave = subst (λ (b : Option (List (List ℕ))). GaveLinks b links after) taken gave
 gave_more (Some []) between after link links taken gave = absurd taken
 gave_more (Some (first ∷ more)) between after link links taken gave =
-    let rest = subst (λ (b : Option (List (List ℕ))). GaveLinks b links after) taken.0 gave in
-    (
+    let rest = subst (λ (b : Option (List (List ℕ))). GaveLinks b links after) taken.0 gave in (
       first ∷ rest.0,
       rest.1,
       ap (λ (l : List (List ℕ)). first ∷ l) rest.2,
@@ -210,9 +210,10 @@ started_for before [] after left are = tt
 started_for before (Process link earlier last ∷ turns) after left (between, is, are) =
     let others : List Wanted = flat_map requests_in turns ++ left in
     subst (λ (w : List Wanted). EachPair (IsStartedFor w) (link ∷ flat_map links_in turns) (first_command earlier last ∷ flat_map started_in turns))
-    (sym (append_assoc (earlier ++ last ∷ []) (flat_map requests_in turns) left))
-    (record { earlier = earlier; last = last; serves = is.0; wanted_so = begins (earlier ++ last ∷ []) others; of_first = refl },
-    pairs_so (IsStartedFor others) (IsStartedFor ((earlier ++ last ∷ []) ++ others)) _ _ (started_behind (earlier ++ last ∷ []) others) (started_for between turns after left are))
+    (sym (append_assoc (earlier ++ last ∷ []) (flat_map requests_in turns) left)) (
+      record { earlier = earlier; last = last; serves = is.0; wanted_so = begins (earlier ++ last ∷ []) others; of_first = refl },
+      pairs_so (IsStartedFor others) (IsStartedFor ((earlier ++ last ∷ []) ++ others)) _ _ (started_behind (earlier ++ last ∷ []) others) (started_for between turns after left are),
+    )
 started_for before (Failure entry wanted ∷ turns) after left (between, is, are) =
     let others : List Wanted = flat_map requests_in turns ++ left in
     pairs_so (IsStartedFor others) (IsStartedFor (wanted ∷ others)) _ _ (started_behind (wanted ∷ []) others) (started_for between turns after left are)
@@ -227,9 +228,10 @@ failed_for before (Process link earlier last ∷ turns) after left (between, is,
     (sym (append_assoc (earlier ++ last ∷ []) (flat_map requests_in turns) left))
     (pairs_so (IsFailedFor others) (IsFailedFor ((earlier ++ last ∷ []) ++ others)) _ _ (failed_behind (earlier ++ last ∷ []) others) (failed_for between turns after left are))
 failed_for before (Failure entry wanted ∷ turns) after left (between, is, are) =
-    let others : List Wanted = flat_map requests_in turns ++ left in
-    (record { request = wanted; of_key = is.of_key; of_command = refl; wanted_so = begins (wanted ∷ []) others },
-    pairs_so (IsFailedFor others) (IsFailedFor (wanted ∷ others)) _ _ (failed_behind (wanted ∷ []) others) (failed_for between turns after left are))
+    let others : List Wanted = flat_map requests_in turns ++ left in (
+      record { request = wanted; of_key = is.of_key; of_command = refl; wanted_so = begins (wanted ∷ []) others },
+      pairs_so (IsFailedFor others) (IsFailedFor (wanted ∷ others)) _ _ (failed_behind (wanted ∷ []) others) (failed_for between turns after left are),
+    )
 
 pub runs_start_as_wanted : RunsStartAsWanted
 runs_start_as_wanted wanted before links unstarted after ran = record {

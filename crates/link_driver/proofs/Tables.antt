@@ -29,12 +29,12 @@ pub link_more : (start now next : List (KeySteps × Outcome)) (asked : List KeyS
     → next ≡ now ++ decided (key ∷ []) (o ∷ []) → next ≡ start ++ decided (take (number + 1) asked) (each_below f (number + 1))
 link_more start now next asked f number key o less is becomes so_far grows =
     let taken : take (number + 1) asked ≡ take number asked ++ key ∷ [] =
-        take_more asked number key less ∙ ap (λ (k : KeySteps). take number asked ++ k ∷ []) (sym is) in
+    take_more asked number key less ∙ ap (λ (k : KeySteps). take number asked ++ k ∷ []) (sym is) in
     let long : length (take number asked) ≡ length (each_below f number) =
-        omega (arith, less, length-take-le number asked, below_count f number) in
+    omega (arith, less, length-take-le number asked, below_count f number) in
     let rest : decided (take (number + 1) asked) (each_below f (number + 1)) ≡ decided (take number asked) (each_below f number) ++ decided (key ∷ []) (o ∷ []) =
-        ap₂ decided taken (next_below f number) ∙ ap (λ (x : Option Outcome). decided (take number asked ++ key ∷ []) (each_below f number ++ x ∷ [])) (sym becomes)
-        ∙ decided_more (take number asked) key (each_below f number) o long in
+    ap₂ decided taken (next_below f number) ∙ ap (λ (x : Option Outcome). decided (take number asked ++ key ∷ []) (each_below f number ++ x ∷ [])) (sym becomes)
+    ∙ decided_more (take number asked) key (each_below f number) o long in
     grows ∙ ap (λ (l : Pairs). l ++ decided (key ∷ []) (o ∷ [])) so_far
     ∙ append_assoc start (decided (take number asked) (each_below f number)) (decided (key ∷ []) (o ∷ []))
     ∙ ap (λ (l : Pairs). start ++ l) (sym rest)
@@ -56,6 +56,6 @@ pub links_more : {A : Type 0} (seen : A → LinkSeen) (links : List A) (link : A
     → next ≡ now ++ decided (seen link).asked outcomes → AreLinkPairs (map seen (take (index + 1) links)) next
 links_more {A} seen links link index now next outcomes less is are table grows =
     let taken : map seen (take (index + 1) links) ≡ map seen (take index links) ++ seen link ∷ [] =
-        ap (map seen) (take_more links index link less) ∙ map-append seen (take index links) _ ∙ ap (λ (l : A). map seen (take index links) ++ seen l ∷ []) (sym is) in
+    ap (map seen) (take_more links index link less) ∙ map-append seen (take index links) _ ∙ ap (λ (l : A). map seen (take index links) ++ seen l ∷ []) (sym is) in
     subst (λ (l : List LinkSeen). AreLinkPairs l next) (sym taken)
     (subst (λ (p : Pairs). AreLinkPairs (map seen (take index links) ++ seen link ∷ []) p) (sym grows) (pairs_more (map seen (take index links)) (seen link) now outcomes are table))

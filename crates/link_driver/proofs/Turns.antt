@@ -367,8 +367,8 @@ none_left_of : (wanted : List Wanted) (before after : StarterSeen) (done : Drive
 none_left_of wanted before after done driven none some = elim driven.limit [
   | inl left ↦ left
   | inr over ↦
-  let most : MOST_BYTES < bytes_of done.links + 0 = subst (λ (r : Option RunningSeen). MOST_BYTES < bytes_of done.links + running_bytes r) none over in
-  absurd (omega (arith, most, some, driven.room))
+      let most : MOST_BYTES < bytes_of done.links + 0 = subst (λ (r : Option RunningSeen). MOST_BYTES < bytes_of done.links + running_bytes r) none over in
+      absurd (omega (arith, most, some, driven.room))
 ]
 
 left_of : (given whole : Option (List ℕ)) → given ≡ whole → given ≡ prepend [] whole
