@@ -22,7 +22,7 @@ pub has_run : (wanted : List Wanted) (before after : StarterSeen) (done : Driver
     → HasRun wanted before done.links done.unstarted after
 has_run wanted before after done is_none driven =
     let runs : (driven.requests ≡ []) × (after ≡ driven.between) =
-    subst (λ (r : Option RunningSeen). IsRunning driven.between r driven.requests after) is_none driven.running in
+    subst (λ (r : Option RunningSeen). IsRunning (bytes_of done.links) driven.between r driven.requests after) is_none driven.running in
     record {
       turns = driven.turns;
       left = driven.left;
@@ -30,6 +30,7 @@ has_run wanted before after done is_none driven =
       links_are = driven.links;
       unstarted_are = driven.unstarted;
       are_turns = subst (λ (s : StarterSeen). AreTurns before driven.turns s) (sym runs.1) driven.are_turns;
+      within = driven.within;
       limit = elim driven.limit [
         | inl left ↦ inl left
         | inr over ↦ inr (most_given done is_none over)
