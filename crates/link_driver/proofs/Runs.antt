@@ -60,14 +60,27 @@ keys_once before (Failure entry wanted ∷ turns) after (between, is, are) =
     (IsPermutation-trans _ _ _ (IsPermutation-cons entry.key _ _ (keys_once between turns after are))
     (IsPermutation-sym _ _ (IsPermutation-middle (flat_map (λ l. l.asked) links) entry.key (map (λ e. e.key) failed))))
 
+all_keys : (wanted taken left : List Wanted) (asked : List KeySteps) → wanted ≡ taken ++ left → IsPermutation (map key_of taken) asked
+    → IsPermutation (map key_of wanted) (asked ++ map key_of left)
+all_keys wanted taken left asked in_order once =
+    subst (λ (k : List KeySteps). IsPermutation k (asked ++ map key_of left)) (sym (ap (map key_of) in_order ∙ map-append key_of taken left))
+    (IsPermutation-append (map key_of taken) asked (map key_of left) (map key_of left) once (IsPermutation-refl (map key_of left)))
+
+taken_once : (wanted : List Wanted) (before : StarterSeen) (links : List LinkSeen) (unstarted : List Unstarted) (after : StarterSeen)
+    (ran : HasRun wanted before links unstarted after) → IsPermutation (map key_of (flat_map requests_in ran.turns)) (asked_keys links unstarted)
+taken_once wanted before links unstarted after ran =
+    let P : List LinkSeen → List Unstarted → Type 0 = λ l u. IsPermutation (map key_of (flat_map requests_in ran.turns)) (asked_keys l u) in
+    subst (λ l. P l unstarted) (sym ran.links_are) (subst (λ u. P (flat_map links_in ran.turns) u) (sym ran.unstarted_are) (keys_once before ran.turns after ran.are_turns))
+
 pub runs_ask_once : RunsAskOnce
 runs_ask_once wanted before links unstarted after ran = record {
   taken = flat_map requests_in ran.turns;
   left = ran.left;
   in_order = ran.in_order;
-  once =
-      let P : List LinkSeen → List Unstarted → Type 0 = λ l u. IsPermutation (map key_of (flat_map requests_in ran.turns)) (asked_keys l u) in
-      subst (λ l. P l unstarted) (sym ran.links_are) (subst (λ u. P (flat_map links_in ran.turns) u) (sym ran.unstarted_are) (keys_once before ran.turns after ran.are_turns));
+  once = taken_once wanted before links unstarted after ran;
+  all =
+      all_keys wanted (flat_map requests_in ran.turns) ran.left (asked_keys links unstarted) ran.in_order
+      (taken_once wanted before links unstarted after ran);
   limit = ran.limit;
 }
 
