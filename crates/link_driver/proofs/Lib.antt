@@ -3,3 +3,4 @@ pub mod Waiting
 pub mod Turns
 pub mod Runs
 pub mod Replied
+pub mod Tables

@@ -100,13 +100,12 @@ reply_of : (count number keys : ℕ) (first more payloads : List (List ℕ)) (to
     → (o : Outcome) × (outcome_at keys payloads too_long stop write_failed number ≡ Some o) × (is_reply o ≡ true)
 reply_of count number keys first more payloads too_long stop write_failed less behind greeted is =
     let reply = reply_at greeted.replies number (omega (arith, less, greeted.enough)) greeted.each in
-    let splits : payloads ≡ greeted.greeting ∷ (greeted.replies ++ more) = is ∙ ap (λ (p : List (List ℕ)). p ++ more) greeted.in_order in
-    (
+    let splits : payloads ≡ greeted.greeting ∷ (greeted.replies ++ more) = is ∙ ap (λ (p : List (List ℕ)). p ++ more) greeted.in_order in (
       reply_outcome (plugin_message_of reply.0),
       replied_at keys payloads too_long stop write_failed number reply.0 (not_last number keys behind)
-      (greeting_stands greeted.greeting payloads (greeted.replies ++ more) splits greeted.greets)
-      (reply_in greeted.greeting payloads (greeted.replies ++ more) number splits
-      ∙ get_front greeted.replies more number (omega (arith, less, greeted.enough)) ∙ reply.1),
+          (greeting_stands greeted.greeting payloads (greeted.replies ++ more) splits greeted.greets)
+          (reply_in greeted.greeting payloads (greeted.replies ++ more) number splits
+          ∙ get_front greeted.replies more number (omega (arith, less, greeted.enough)) ∙ reply.1),
       reply.2,
     )
 
@@ -114,14 +113,13 @@ pub only_last_keys_fail : EachListIsFrames → OneReading → FramesGoOn → Onl
 only_last_keys_fail some one goes earlier last link outcomes process table number less =
     let has = process.replied in
     let keys : length link.asked ≡ length earlier + 1 =
-        ap length process.asked ∙ length-map _ _ ∙ length-append earlier (last ∷ []) in
+    ap length process.asked ∙ length-map _ _ ∙ length-append earlier (last ∷ []) in
     let count : length outcomes ≡ length link.asked = ap length table.each ∙ below_count _ (length link.asked) in
     let before : number < length earlier = omega (arith, less, keys, count) in
     let begins = begins_with has.front has.behind has.payloads table.payloads table.tail some one goes has.frames
-        (subst (λ (b : List ℕ). IsFrames b table.payloads table.tail) has.whole table.frames) in
+    (subst (λ (b : List ℕ). IsFrames b table.payloads table.tail) has.whole table.frames) in
     let found = reply_of (length earlier) number (length link.asked) has.payloads begins.0 table.payloads (is_length table.tail) link.stop link.write_failed before
-        (omega (arith, less, count)) (replied_among (length earlier) number has.payloads before has.replies) begins.1 in
-    (
+    (omega (arith, less, count)) (replied_among (length earlier) number has.payloads before has.replies) begins.1 in (
       found.0,
       ap (λ (l : List (Option Outcome)). slice_get l number) table.each ∙ below_at _ (length link.asked) number (omega (arith, less, count)) ∙ ap Some found.1,
       found.2,

@@ -22,7 +22,7 @@ pub has_run : (wanted : List Wanted) (before after : StarterSeen) (done : Driver
     → HasRun wanted before done.links done.unstarted after
 has_run wanted before after done is_none driven =
     let runs : (driven.requests ≡ []) × (after ≡ driven.between) =
-        subst (λ (r : Option RunningSeen). IsRunning driven.between r driven.requests after) is_none driven.running in
+    subst (λ (r : Option RunningSeen). IsRunning (bytes_of done.links) driven.between r driven.requests after) is_none driven.running in
     record {
       turns = driven.turns;
       left = driven.left;
@@ -30,6 +30,7 @@ has_run wanted before after done is_none driven =
       links_are = driven.links;
       unstarted_are = driven.unstarted;
       are_turns = subst (λ (s : StarterSeen). AreTurns before driven.turns s) (sym runs.1) driven.are_turns;
+      within = driven.within;
       limit = elim driven.limit [
         | inl left ↦ inl left
         | inr over ↦ inr (most_given done is_none over)
@@ -59,14 +60,27 @@ keys_once before (Failure entry wanted ∷ turns) after (between, is, are) =
     (IsPermutation-trans _ _ _ (IsPermutation-cons entry.key _ _ (keys_once between turns after are))
     (IsPermutation-sym _ _ (IsPermutation-middle (flat_map (λ l. l.asked) links) entry.key (map (λ e. e.key) failed))))
 
+all_keys : (wanted taken left : List Wanted) (asked : List KeySteps) → wanted ≡ taken ++ left → IsPermutation (map key_of taken) asked
+    → IsPermutation (map key_of wanted) (asked ++ map key_of left)
+all_keys wanted taken left asked in_order once =
+    subst (λ (k : List KeySteps). IsPermutation k (asked ++ map key_of left)) (sym (ap (map key_of) in_order ∙ map-append key_of taken left))
+    (IsPermutation-append (map key_of taken) asked (map key_of left) (map key_of left) once (IsPermutation-refl (map key_of left)))
+
+taken_once : (wanted : List Wanted) (before : StarterSeen) (links : List LinkSeen) (unstarted : List Unstarted) (after : StarterSeen)
+    (ran : HasRun wanted before links unstarted after) → IsPermutation (map key_of (flat_map requests_in ran.turns)) (asked_keys links unstarted)
+taken_once wanted before links unstarted after ran =
+    let P : List LinkSeen → List Unstarted → Type 0 = λ l u. IsPermutation (map key_of (flat_map requests_in ran.turns)) (asked_keys l u) in
+    subst (λ l. P l unstarted) (sym ran.links_are) (subst (λ u. P (flat_map links_in ran.turns) u) (sym ran.unstarted_are) (keys_once before ran.turns after ran.are_turns))
+
 pub runs_ask_once : RunsAskOnce
 runs_ask_once wanted before links unstarted after ran = record {
   taken = flat_map requests_in ran.turns;
   left = ran.left;
   in_order = ran.in_order;
-  once =
-      let P : List LinkSeen → List Unstarted → Type 0 = λ l u. IsPermutation (map key_of (flat_map requests_in ran.turns)) (asked_keys l u) in
-      subst (λ l. P l unstarted) (sym ran.links_are) (subst (λ u. P (flat_map links_in ran.turns) u) (sym ran.unstarted_are) (keys_once before ran.turns after ran.are_turns));
+  once = taken_once wanted before links unstarted after ran;
+  all =
+      all_keys wanted (flat_map requests_in ran.turns) ran.left (asked_keys links unstarted) ran.in_order
+      (taken_once wanted before links unstarted after ran);
   limit = ran.limit;
 }
 
@@ -97,9 +111,10 @@ serve : (before : StarterSeen) (turns : List Turn) (after : StarterSeen) (left :
 serve before [] after left are = tt
 serve before (Process link earlier last ∷ turns) after left (between, is, are) =
     let others : List Wanted = flat_map requests_in turns ++ left in
-    subst (λ (w : List Wanted). Each (IsServedOf w) (link ∷ flat_map links_in turns)) (sym (append_assoc (earlier ++ last ∷ []) (flat_map requests_in turns) left))
-    (record { earlier = earlier; last = last; serves = is.0; wanted_so = begins (earlier ++ last ∷ []) others },
-    each_so (IsServedOf others) (IsServedOf ((earlier ++ last ∷ []) ++ others)) (flat_map links_in turns) (served_behind (earlier ++ last ∷ []) others) (serve between turns after left are))
+    subst (λ (w : List Wanted). Each (IsServedOf w) (link ∷ flat_map links_in turns)) (sym (append_assoc (earlier ++ last ∷ []) (flat_map requests_in turns) left)) (
+      record { earlier = earlier; last = last; serves = is.0; wanted_so = begins (earlier ++ last ∷ []) others },
+      each_so (IsServedOf others) (IsServedOf ((earlier ++ last ∷ []) ++ others)) (flat_map links_in turns) (served_behind (earlier ++ last ∷ []) others) (serve between turns after left are),
+    )
 serve before (Failure entry wanted ∷ turns) after left (between, is, are) =
     let others : List Wanted = flat_map requests_in turns ++ left in
     each_so (IsServedOf others) (IsServedOf (wanted ∷ others)) (flat_map links_in turns) (served_behind (wanted ∷ []) others) (serve between turns after left are)
@@ -123,8 +138,7 @@ gave_more : (before between after : Option (List (List ℕ))) (link : LinkSeen) 
 gave_more None between after link links taken gave = subst (λ (b : Option (List (List ℕ))). GaveLinks b links after) taken gave
 gave_more (Some []) between after link links taken gave = absurd taken
 gave_more (Some (first ∷ more)) between after link links taken gave =
-    let rest = subst (λ (b : Option (List (List ℕ))). GaveLinks b links after) taken.0 gave in
-    (
+    let rest = subst (λ (b : Option (List (List ℕ))). GaveLinks b links after) taken.0 gave in (
       first ∷ rest.0,
       rest.1,
       ap (λ (l : List (List ℕ)). first ∷ l) rest.2,
@@ -210,9 +224,10 @@ started_for before [] after left are = tt
 started_for before (Process link earlier last ∷ turns) after left (between, is, are) =
     let others : List Wanted = flat_map requests_in turns ++ left in
     subst (λ (w : List Wanted). EachPair (IsStartedFor w) (link ∷ flat_map links_in turns) (first_command earlier last ∷ flat_map started_in turns))
-    (sym (append_assoc (earlier ++ last ∷ []) (flat_map requests_in turns) left))
-    (record { earlier = earlier; last = last; serves = is.0; wanted_so = begins (earlier ++ last ∷ []) others; of_first = refl },
-    pairs_so (IsStartedFor others) (IsStartedFor ((earlier ++ last ∷ []) ++ others)) _ _ (started_behind (earlier ++ last ∷ []) others) (started_for between turns after left are))
+    (sym (append_assoc (earlier ++ last ∷ []) (flat_map requests_in turns) left)) (
+      record { earlier = earlier; last = last; serves = is.0; wanted_so = begins (earlier ++ last ∷ []) others; of_first = refl },
+      pairs_so (IsStartedFor others) (IsStartedFor ((earlier ++ last ∷ []) ++ others)) _ _ (started_behind (earlier ++ last ∷ []) others) (started_for between turns after left are),
+    )
 started_for before (Failure entry wanted ∷ turns) after left (between, is, are) =
     let others : List Wanted = flat_map requests_in turns ++ left in
     pairs_so (IsStartedFor others) (IsStartedFor (wanted ∷ others)) _ _ (started_behind (wanted ∷ []) others) (started_for between turns after left are)
@@ -227,9 +242,10 @@ failed_for before (Process link earlier last ∷ turns) after left (between, is,
     (sym (append_assoc (earlier ++ last ∷ []) (flat_map requests_in turns) left))
     (pairs_so (IsFailedFor others) (IsFailedFor ((earlier ++ last ∷ []) ++ others)) _ _ (failed_behind (earlier ++ last ∷ []) others) (failed_for between turns after left are))
 failed_for before (Failure entry wanted ∷ turns) after left (between, is, are) =
-    let others : List Wanted = flat_map requests_in turns ++ left in
-    (record { request = wanted; of_key = is.of_key; of_command = refl; wanted_so = begins (wanted ∷ []) others },
-    pairs_so (IsFailedFor others) (IsFailedFor (wanted ∷ others)) _ _ (failed_behind (wanted ∷ []) others) (failed_for between turns after left are))
+    let others : List Wanted = flat_map requests_in turns ++ left in (
+      record { request = wanted; of_key = is.of_key; of_command = refl; wanted_so = begins (wanted ∷ []) others },
+      pairs_so (IsFailedFor others) (IsFailedFor (wanted ∷ others)) _ _ (failed_behind (wanted ∷ []) others) (failed_for between turns after left are),
+    )
 
 pub runs_start_as_wanted : RunsStartAsWanted
 runs_start_as_wanted wanted before links unstarted after ran = record {

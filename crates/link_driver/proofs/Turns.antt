@@ -16,7 +16,7 @@ use Rattle.link_driver.specs.LinkTable.{is_capability, is_result}
 use Rattle.link_driver.specs.Requests.{Wanted, wanted_of, key_of, module_of, greeting_frame, request_frame, bytes_for, write_for, sent_for, first_command}
 use Rattle.link_driver.specs.Awaiting.{AreAwaited, Replies}
 use Rattle.link_driver.specs.Asking.{IsRetired, HasAnswered, HasEnded, IsAskedOf, goes_on, ends}
-use Rattle.link_driver.specs.Driven.{DriverSeen, Each, bytes_of, running_bytes, RunsFor, HasGreeted, AreReplies, HasReplies, IsReady, IsProcess, TakesProcess, IsFailedStart, Turn, Process, Failure, requests_in, links_in, unstarted_in, IsTurn, AreTurns, Runs, IsRunning, IsDriven}
+use Rattle.link_driver.specs.Driven.{DriverSeen, Each, bytes_of, running_bytes, RunsFor, HasGreeted, AreReplies, HasReplies, IsReady, IsProcess, TakesProcess, IsFailedStart, IsAskedWithin, IsWithin, AreWithin, Turn, Process, Failure, requests_in, links_in, unstarted_in, IsTurn, AreTurns, Runs, IsRunning, IsDriven}
 use Rattle.link_driver.proofs.Written.{gains_whole, given_held}
 
 -- lists
@@ -33,6 +33,21 @@ turns_more : (before : StarterSeen) (turns : List Turn) (between : StarterSeen) 
     → AreTurns before turns between → IsTurn between turn after → AreTurns before (turns ++ turn ∷ []) after
 turns_more before [] between turn after are is = (after, subst (λ (b : StarterSeen). IsTurn b turn after) are is, refl)
 turns_more before (first ∷ turns) between turn after (middle, begins, are) is = (middle, begins, turns_more middle turns between turn after are is)
+
+bytes_append : (xs ys : List LinkSeen) → bytes_of (xs ++ ys) ≡ bytes_of xs + bytes_of ys
+bytes_append [] ys = omega arith
+bytes_append (x ∷ xs) ys = omega (arith, bytes_append xs ys)
+
+from_none : (one other : ℕ) → one ≡ other → one ≡ 0 + other
+from_none one other same = omega (arith, same)
+
+within_more : (given : ℕ) (turns : List Turn) (turn : Turn) → AreWithin given turns → IsWithin (given + bytes_of (flat_map links_in turns)) turn
+    → AreWithin given (turns ++ turn ∷ [])
+within_more given [] turn within is = let same : given + 0 ≡ given = omega arith in (subst (λ (n : ℕ). IsWithin n turn) same is, tt)
+within_more given (first ∷ turns) turn within is =
+    let same : given + bytes_of (flat_map links_in (first ∷ turns)) ≡ (given + bytes_of (links_in first)) + bytes_of (flat_map links_in turns) =
+    omega (arith, bytes_append (links_in first) (flat_map links_in turns)) in
+    (within.0, within_more (given + bytes_of (links_in first)) turns turn within.1 (subst (λ (n : ℕ). IsWithin n turn) same is))
 
 -- bytes
 
@@ -54,32 +69,25 @@ is_first (first ∷ more) = false
 
 -- replies
 
-has_none : (got : List ℕ) → NoFrames → HasReplies 0 got
-has_none got none = record { front = []; behind = got; payloads = []; whole = refl; frames = none; replies = refl }
-
-fewer : (count : ℕ) (payloads : List (List ℕ)) → HasGreeted (suc (suc count)) payloads → HasGreeted (suc count) payloads
-fewer count payloads greeted = record {
-  greeting = greeted.greeting;
-  replies = greeted.replies;
-  in_order = greeted.in_order;
-  greets = greeted.greets;
-  enough = omega (arith, greeted.enough);
-  each = greeted.each;
+abbrev grow_replies : (count : ℕ) (old new gained : List ℕ) → HasReplies count old → new ≡ old ++ gained → HasReplies count new
+grow_replies count old new gained has grows = record {
+  front = has.front;
+  behind = has.behind ++ gained;
+  payloads = has.payloads;
+  whole = grows ∙ ap (λ (g : List ℕ). g ++ gained) has.whole ∙ append_assoc has.front has.behind gained;
+  frames = has.frames;
+  replies = has.replies;
 }
 
-has_fewer : (count : ℕ) (got : List ℕ) → NoFrames → HasReplies (suc count) got → HasReplies count got
-has_fewer zero got none has = has_none got none
-has_fewer (suc count) got none has = record {
-  front = has.front;
-  behind = has.behind;
-  payloads = has.payloads;
-  whole = has.whole;
-  frames = has.frames;
-  replies = fewer count has.payloads has.replies;
+within_grows : (given : ℕ) (earlier : List Wanted) (old new gained : List ℕ) → IsAskedWithin given earlier old → new ≡ old ++ gained
+    → IsAskedWithin given earlier new
+within_grows given earlier old new gained within grows = record {
+  replied = grow_replies (length earlier) old new gained within.replied grows;
+  few = within.few;
 }
 
 -- bytes that begin with those of a process that was ready
-has_behind : (count : ℕ) (old new gained : List ℕ) (payloads : List (List ℕ)) → IsFrames old payloads (Rest []) → AreReplies count payloads → new ≡ old ++ gained
+abbrev has_behind : (count : ℕ) (old new gained : List ℕ) (payloads : List (List ℕ)) → IsFrames old payloads (Rest []) → AreReplies count payloads → new ≡ old ++ gained
     → HasReplies count new
 has_behind count old new gained payloads frames replies grows = record { front = old; behind = gained; payloads = payloads; whole = grows; frames = frames; replies = replies }
 
@@ -115,6 +123,13 @@ longer requests last = omega (arith, length-append requests (last ∷ []))
 keys_more : (requests : List Wanted) (last : Wanted) → map key_of (requests ++ last ∷ []) ≡ map key_of requests ++ key_of last ∷ []
 keys_more requests last = map-append key_of requests (last ∷ [])
 
+within_ready : (given : ℕ) (requests : List Wanted) (link : RunningSeen) (got gained : List ℕ) → IsReady requests link → given + length link.got ≤ MOST_BYTES
+    → got ≡ link.got ++ gained → IsAskedWithin given requests got
+within_ready given requests link got gained ready few grows = record {
+  replied = has_behind (length requests) link.got got gained ready.payloads ready.frames ready.replies grows;
+  few = few;
+}
+
 -- one more request of a process
 
 of_same : (requests : List Wanted) (one other : List ℕ) → other ≡ one → Each (λ wanted. module_of wanted ≡ one) requests → Each (λ wanted. module_of wanted ≡ other) requests
@@ -146,9 +161,9 @@ process_ended requests wanted link closed ready of_module ended = record {
   replied = has_behind (length requests) link.got closed.got ended.gains.gained ready.payloads ready.frames ready.replies ended.gains.appended;
 }
 
-process_retired : (earlier : List Wanted) (last : Wanted) (link : RunningSeen) (closed : LinkSeen) → NoFrames → IsReady (earlier ++ last ∷ []) link
-    → IsRetired link false closed → IsProcess earlier last closed
-process_retired earlier last link closed none ready retired = record {
+process_retired : (earlier : List Wanted) (last : Wanted) (link : RunningSeen) (closed : LinkSeen) → HasReplies (length earlier) link.got
+    → IsReady (earlier ++ last ∷ []) link → IsRetired link false closed → IsProcess earlier last closed
+process_retired earlier last link closed replied ready retired = record {
   asked = retired.asked ∙ ready.asked;
   of_module = of_same (earlier ++ last ∷ []) link.module_name closed.module_name retired.module_name ready.of_module;
   written =
@@ -157,10 +172,7 @@ process_retired earlier last link closed none ready retired = record {
       (given_held (sent_for earlier) (write_for earlier last.request) link.writer
       (subst (λ (b : List ℕ). Holds b link.writer) (sym (sent_more earlier last)) ready.held)));
   stopped = retired.stopped;
-  replied =
-      has_fewer (length earlier) closed.got none
-      (subst (λ (n : ℕ). HasReplies n closed.got) (longer earlier last)
-      (has_behind (length (earlier ++ last ∷ [])) link.got closed.got retired.gains.gained ready.payloads ready.frames ready.replies retired.gains.appended));
+  replied = grow_replies (length earlier) link.got closed.got retired.gains.gained replied retired.gains.appended;
 }
 
 abbrev made : List LinkSeen → List Unstarted → ℕ → Option RunningSeen → DriverSeen
@@ -188,9 +200,9 @@ then_process : (wanted left earlier : List Wanted) (last : Wanted) (turns : List
     → wanted ≡ flat_map requests_in turns ++ ((earlier ++ last ∷ []) ++ left) → done.links ≡ flat_map links_in turns
     → done.unstarted ≡ flat_map unstarted_in turns → AreTurns before turns between → done.room ≡ (MOST_BYTES + 1) - bytes_of done.links
     → IsProcess earlier last closed → TakesProcess between (first_command earlier last) (whole_of closed) after
-    → (left ≡ []) ⊎ (MOST_BYTES < bytes_of done.links + length closed.got)
+    → AreWithin 0 turns → IsAskedWithin (bytes_of done.links) earlier closed.got → (left ≡ []) ⊎ (MOST_BYTES < bytes_of done.links + length closed.got)
     → IsDriven wanted before (record done { links = done.links ++ closed ∷ []; room = done.room - length closed.got; running = None }) after
-then_process wanted left earlier last turns before between after done closed in_order links unstarted are room process takes limit =
+then_process wanted left earlier last turns before between after done closed in_order links unstarted are room process takes within asked limit =
     let turn : Turn = Process closed earlier last in
     record {
       turns = turns ++ turn ∷ [];
@@ -204,6 +216,7 @@ then_process wanted left earlier last turns before between after done closed in_
       unstarted = unstarted ∙ sym (append-nil (flat_map unstarted_in turns)) ∙ sym (flat_map-append unstarted_in turns (turn ∷ []));
       between = after;
       are_turns = turns_more before turns between turn after are (process, takes);
+      within = within_more 0 turns turn within (subst (λ (n : ℕ). IsAskedWithin n earlier closed.got) (from_none _ _ (ap bytes_of links)) asked);
       running = (refl, refl);
       room = omega (arith, room, bytes_more done.links closed);
       limit = elim limit [
@@ -223,7 +236,8 @@ nothing_done before driver links unstarted room running = record {
   unstarted = unstarted;
   between = before;
   are_turns = refl;
-  running = subst (λ (r : Option RunningSeen). IsRunning before r [] before) (sym running) (refl, refl);
+  within = tt;
+  running = subst (λ (r : Option RunningSeen). IsRunning (bytes_of driver.links) before r [] before) (sym running) (refl, refl);
   room = subst (λ (l : List LinkSeen). driver.room ≡ (MOST_BYTES + 1) - bytes_of l) (sym links) (room ∙ omega arith);
   limit = inl refl;
 }
@@ -243,6 +257,7 @@ left_over wanted one before after driver driven spent = record {
   unstarted = driven.unstarted;
   between = driven.between;
   are_turns = driven.are_turns;
+  within = driven.within;
   running = driven.running;
   room = driven.room;
   limit = inr (grind (arith, nat_tests, spent, driven.room));
@@ -261,16 +276,17 @@ takes_whole before after command other whole now same is takes =
     subst (λ (w : Option (List ℕ)). TakesProcess before other w after) is (subst (λ (c : List ℕ). TakesProcess before c whole after) (sym same) takes)
 
 -- the process that runs is retired
-pub retired : (wanted : List Wanted) (before after : StarterSeen) (done : DriverSeen) (link : RunningSeen) (closed : LinkSeen) → NoFrames
+pub retired : (wanted : List Wanted) (before after : StarterSeen) (done : DriverSeen) (link : RunningSeen) (closed : LinkSeen)
     → IsRetired link false closed → IsDriven wanted before (record done { running = Some link }) after
     → IsDriven wanted before (record done { links = done.links ++ closed ∷ []; room = done.room - length closed.got; running = None }) after
-retired wanted before after done link closed none is driven =
+retired wanted before after done link closed is driven =
     let runs = driven.running in
     then_process wanted driven.left runs.earlier runs.last driven.turns before driven.between after done closed
     (driven.in_order ∙ ap (λ (r : List Wanted). flat_map requests_in driven.turns ++ (r ++ driven.left)) runs.in_order)
     driven.links driven.unstarted driven.are_turns driven.room
-    (process_retired runs.earlier runs.last link closed none (subst (λ (r : List Wanted). IsReady r link) runs.in_order runs.ready) is)
+    (process_retired runs.earlier runs.last link closed runs.asked_within.replied (subst (λ (r : List Wanted). IsReady r link) runs.in_order runs.ready) is)
     (takes_whole driven.between after _ _ (running_whole link) (whole_of closed) refl (gains_whole link.reader closed.reader link.got closed.got is.gains) runs.started)
+    driven.within (within_grows (bytes_of done.links) runs.earlier link.got closed.got is.gains.gained runs.asked_within is.gains.appended)
     (elim driven.limit [
       | inl left ↦ inl left
       | inr over ↦ inr (omega (arith, over, ap length is.gains.appended, length-append link.got is.gains.gained))
@@ -287,9 +303,9 @@ asked_of : (wanted left requests : List Wanted) (one : Wanted) (turns : List Tur
     (link : RunningSeen) → FramesGoOn → left ≡ [] → wanted ≡ flat_map requests_in turns ++ (requests ++ left)
     → done.links ≡ flat_map links_in turns → done.unstarted ≡ flat_map unstarted_in turns → AreTurns before turns between
     → done.room ≡ (MOST_BYTES + 1) - bytes_of done.links → IsReady requests link → module_of one ≡ link.module_name
-    → TakesProcess between (first_command requests one) (running_whole link) after
+    → TakesProcess between (first_command requests one) (running_whole link) after → AreWithin 0 turns → bytes_of done.links + length link.got ≤ MOST_BYTES
     → IsAskedOf done link (key_of one) (write_for requests one.request) (is_first requests) next → IsDriven (wanted ++ one ∷ []) before next after
-asked_of wanted left requests one turns before between after done next link goes nothing in_order links unstarted are room ready of_module takes (goes_on answered is same) =
+asked_of wanted left requests one turns before between after done next link goes nothing in_order links unstarted are room ready of_module takes within few (goes_on answered is same) =
     subst (λ (d : DriverSeen). IsDriven (wanted ++ one ∷ []) before d after) (sym same)
     (record {
       turns = turns;
@@ -300,22 +316,25 @@ asked_of wanted left requests one turns before between after done next link goes
       unstarted = unstarted;
       between = between;
       are_turns = are;
+      within = within;
       running = record {
         earlier = requests;
         last = one;
         in_order = refl;
         ready = ready_more requests one link answered goes ready of_module is;
+        asked_within = within_ready (bytes_of done.links) requests link answered.got is.gains.gained ready few is.gains.appended;
         started = takes_whole between after _ _ (running_whole link) (running_whole answered) refl (gains_whole link.reader answered.reader link.got answered.got is.gains) takes;
       };
       room = room;
       limit = inl refl;
     })
-asked_of wanted left requests one turns before between after done next link goes nothing in_order links unstarted are room ready of_module takes (ends closed is same) =
+asked_of wanted left requests one turns before between after done next link goes nothing in_order links unstarted are room ready of_module takes within few (ends closed is same) =
     subst (λ (d : DriverSeen). IsDriven (wanted ++ one ∷ []) before d after) (sym same)
     (then_process (wanted ++ one ∷ []) [] requests one turns before between after done closed
     (one_behind wanted (flat_map requests_in turns) requests left one nothing in_order)
     links unstarted are room (process_ended requests one link closed ready of_module is)
     (takes_whole between after _ _ (running_whole link) (whole_of closed) refl (gains_whole link.reader closed.reader link.got closed.got is.gains) takes)
+    within (within_ready (bytes_of done.links) requests link closed.got is.gains.gained ready few is.gains.appended)
     (inl refl))
 
 first_for : (requests earlier : List Wanted) (last one : Wanted) → requests ≡ earlier ++ last ∷ [] → first_command requests one ≡ first_command earlier last
@@ -334,6 +353,14 @@ as_asked : (done next : DriverSeen) (link : RunningSeen) (key : KeySteps) (sent 
 as_asked done next link key sent other first second sent_same same is =
     subst (λ (b : Bool). IsAskedOf done link key other b next) same (subst (λ (s : List ℕ). IsAskedOf done link key s first next) sent_same is)
 
+few_again : (done : DriverSeen) (link : RunningSeen) (given : ℕ) → done.room ≡ (MOST_BYTES + 1) - given → nat_le done.room (length link.got) ≡ false
+    → given + length link.got ≤ MOST_BYTES
+few_again done link given room some = grind (arith, nat_tests, some, room)
+
+few_first : (done : DriverSeen) (link : RunningSeen) (given : ℕ) → done.room ≡ (MOST_BYTES + 1) - given → 0 < done.room → link.got ≡ []
+    → given + length link.got ≤ MOST_BYTES
+few_first done link given room some got = omega (arith, some, room, ap length got)
+
 -- the process that runs is asked once more
 pub asked_again : (wanted : List Wanted) (one : Wanted) (before after : StarterSeen) (done next : DriverSeen) (link : RunningSeen) → FramesGoOn
     → IsDriven wanted before (record done { running = Some link }) after → nat_le done.room (length link.got) ≡ false → link.module_name ≡ module_of one
@@ -344,6 +371,7 @@ asked_again wanted one before after done next link goes driven some of_module is
     (none_left wanted before after (record done { running = Some link }) driven some) driven.in_order driven.links driven.unstarted driven.are_turns driven.room
     runs.ready (sym of_module)
     (takes_whole driven.between after _ _ (running_whole link) (running_whole link) (first_for driven.requests runs.earlier runs.last one runs.in_order) refl runs.started)
+    driven.within (few_again done link (bytes_of done.links) driven.room some)
     (as_asked done next link (key_of one) _ _ false (is_first driven.requests) (writes_on driven.requests runs.earlier runs.last one.request runs.in_order)
     (not_first driven.requests runs.earlier runs.last runs.in_order) is)
 
@@ -360,15 +388,15 @@ fresh_ready link none asked got writer reader = record {
 
 nothing_runs : (wanted : List Wanted) (before after : StarterSeen) (done : DriverSeen) (driven : IsDriven wanted before done after) → done.running ≡ None
     → (driven.requests ≡ []) × (after ≡ driven.between)
-nothing_runs wanted before after done driven none = subst (λ (r : Option RunningSeen). IsRunning driven.between r driven.requests after) none driven.running
+nothing_runs wanted before after done driven none = subst (λ (r : Option RunningSeen). IsRunning (bytes_of done.links) driven.between r driven.requests after) none driven.running
 
 none_left_of : (wanted : List Wanted) (before after : StarterSeen) (done : DriverSeen) (driven : IsDriven wanted before done after) → done.running ≡ None
     → 0 < done.room → driven.left ≡ []
 none_left_of wanted before after done driven none some = elim driven.limit [
   | inl left ↦ left
   | inr over ↦
-  let most : MOST_BYTES < bytes_of done.links + 0 = subst (λ (r : Option RunningSeen). MOST_BYTES < bytes_of done.links + running_bytes r) none over in
-  absurd (omega (arith, most, some, driven.room))
+      let most : MOST_BYTES < bytes_of done.links + 0 = subst (λ (r : Option RunningSeen). MOST_BYTES < bytes_of done.links + running_bytes r) none over in
+      absurd (omega (arith, most, some, driven.room))
 ]
 
 left_of : (given whole : Option (List ℕ)) → given ≡ whole → given ≡ prepend [] whole
@@ -394,7 +422,8 @@ asked_first wanted one before middle after done next link none goes none_runs so
     (none_left_of wanted before middle done driven none_runs some)
     (driven.in_order ∙ ap (λ (r : List Wanted). flat_map requests_in driven.turns ++ (r ++ driven.left)) runs.0)
     driven.links driven.unstarted driven.are_turns driven.room (fresh_ready link none asked got writer reader) (sym of_module)
-    (subst (λ (s : StarterSeen). TakesProcess s one.command (running_whole link) after) runs.1 takes_all) is
+    (subst (λ (s : StarterSeen). TakesProcess s one.command (running_whole link) after) runs.1 takes_all)
+    driven.within (few_first done link (bytes_of done.links) driven.room some got) is
 
 -- a start fails
 pub asked_in_vain : (wanted : List Wanted) (one : Wanted) (before middle after : StarterSeen) (done next : DriverSeen) (entry : Unstarted)
@@ -429,7 +458,8 @@ asked_in_vain wanted one before middle after done next entry none_runs some driv
           unstarted ∙ ap (λ (l : List Unstarted). l ++ entry ∷ []) driven.unstarted ∙ sym (flat_map-append unstarted_in driven.turns (turn ∷ []));
       between = after;
       are_turns = turns_more before driven.turns driven.between turn after driven.are_turns (subst (λ (s : StarterSeen). IsFailedStart s one entry after) runs.1 fails);
-      running = subst (λ (r : Option RunningSeen). IsRunning after r [] after) (sym running) (refl, refl);
+      within = within_more 0 driven.turns turn driven.within (omega (arith, some, driven.room, ap bytes_of driven.links));
+      running = subst (λ (r : Option RunningSeen). IsRunning (bytes_of next.links) after r [] after) (sym running) (refl, refl);
       room = subst (λ (l : List LinkSeen). next.room ≡ (MOST_BYTES + 1) - bytes_of l) (sym links) (room ∙ driven.room);
       limit = inl refl;
     }

@@ -143,17 +143,33 @@ abbrev pub AreTurns : StarterSeen → List Turn → StarterSeen → Type 0
 AreTurns before [] after = after ≡ before
 AreTurns before (turn ∷ turns) after = (between : StarterSeen) × IsTurn before turn between × AreTurns between turns after
 
+-- The last request was asked when the processes had given no more than is read: those before so many bytes, and this
+-- one no more than the answers to its earlier requests.
+pub record IsAskedWithin (given : ℕ) (earlier : List Wanted) (got : List ℕ) : Type 0 where
+  pub replied : HasReplies (length earlier) got
+  pub few : given + length replied.front ≤ MOST_BYTES
+
+abbrev pub IsWithin : ℕ → Turn → Type 0
+IsWithin given (Process link earlier last) = IsAskedWithin given earlier link.got
+IsWithin given (Failure entry wanted) = given ≤ MOST_BYTES
+
+-- nothing was asked once the processes had given more than is read, as many bytes having been given before
+abbrev pub AreWithin : ℕ → List Turn → Type 0
+AreWithin given [] = Unit {0}
+AreWithin given (turn ∷ turns) = IsWithin given turn × AreWithin (given + bytes_of (links_in turn)) turns
+
 -- a process that may be asked again, from the starter before it was started, with the requests that it was asked
-pub record Runs (before : StarterSeen) (link : RunningSeen) (requests : List Wanted) (after : StarterSeen) : Type 0 where
+pub record Runs (given : ℕ) (before : StarterSeen) (link : RunningSeen) (requests : List Wanted) (after : StarterSeen) : Type 0 where
   pub earlier : List Wanted
   pub last : Wanted
   pub in_order : requests ≡ earlier ++ last ∷ []
   pub ready : IsReady requests link
+  pub asked_within : IsAskedWithin given earlier link.got
   pub started : TakesProcess before (first_command earlier last) (running_whole link) after
 
-abbrev pub IsRunning : StarterSeen → Option RunningSeen → List Wanted → StarterSeen → Type 0
-IsRunning before None requests after = (requests ≡ []) × (after ≡ before)
-IsRunning before (Some link) requests after = Runs before link requests after
+abbrev pub IsRunning : ℕ → StarterSeen → Option RunningSeen → List Wanted → StarterSeen → Type 0
+IsRunning given before None requests after = (requests ≡ []) × (after ≡ before)
+IsRunning given before (Some link) requests after = Runs given before link requests after
 
 -- What was done for all that is wanted so far: turn by turn, then what the process that may be asked again was asked,
 -- and what is left because processes gave more bytes than are read.
@@ -166,6 +182,7 @@ pub record IsDriven (wanted : List Wanted) (before : StarterSeen) (driver : Driv
   pub unstarted : driver.unstarted ≡ flat_map unstarted_in turns
   pub between : StarterSeen
   pub are_turns : AreTurns before turns between
-  pub running : IsRunning between driver.running requests after
+  pub within : AreWithin 0 turns
+  pub running : IsRunning (bytes_of driver.links) between driver.running requests after
   pub room : driver.room ≡ (MOST_BYTES + 1) - bytes_of driver.links
   pub limit : (left ≡ []) ⊎ (MOST_BYTES < bytes_of driver.links + running_bytes driver.running)

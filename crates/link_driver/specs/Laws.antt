@@ -24,6 +24,7 @@ pub record AsksOnce (wanted : List Wanted) (links : List LinkSeen) (unstarted : 
   pub left : List Wanted
   pub in_order : wanted ≡ taken ++ left
   pub once : IsPermutation (map key_of taken) (asked_keys links unstarted)
+  pub all : IsPermutation (map key_of wanted) (asked_keys links unstarted ++ map key_of left)
   pub limit : (left ≡ []) ⊎ (MOST_BYTES < bytes_of links)
 
 abbrev pub RunsAskOnce : Type 0

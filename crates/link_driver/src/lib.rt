@@ -16,12 +16,11 @@ mod table;
 mod talk;
 
 pub use driver::{Driver, Ran, ask, finish};
-pub use laws::{each_request_is_asked_once, only_last_keys_fail, processes_serve, starts_are_wanted};
+pub use laws::{
+    each_request_is_asked_once, only_last_keys_fail, processes_serve, starts_are_wanted,
+};
 pub use link::{Closed, MOST_BYTES, Stop, Unstarted};
 pub use table::{link_table, run_table};
 
 #[cfg(test)]
 mod tests;
-
-
-

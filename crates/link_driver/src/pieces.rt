@@ -11,10 +11,7 @@ use swift_base::Source;
 const PIECE: usize = 4096;
 
 /// Reads one piece; the stop, where it came instead.
-pub fn read_piece<R: Source>(
-    reader: &mut R,
-    got: &mut Vec<u8>,
-) -> Result<Option<Stop>, AllocError>
+pub fn read_piece<R: Source>(reader: &mut R, got: &mut Vec<u8>) -> Result<Option<Stop>, AllocError>
     requires { HasNotStopped (R.seen reader.old) }
     ensures more { IfOk result (λ stop. stop ≡ None
         → (length got.old.items ≤ MOST_BYTES) × (length got.old.items < length got.new.items) × HasNotStopped (R.seen reader.new)) }

@@ -8,7 +8,6 @@ ghost use Rattle.link_driver.specs.Driven.{done_seen, driver_seen, IsSound, Runs
 use crate::driver::{Done, Driver};
 use crate::link::{Closed, Running};
 use crate::talk::retire;
-use plugin_frames::frames_are_read;
 use std::alloc::AllocError;
 use swift_base::{Sink, Source};
 
@@ -45,7 +44,6 @@ fn with_retired<W: Sink, R: Source>(
         → IsDriven wanted before (done_seen W.seen R.seen done (Some (running_seen W.seen R.seen link))) after
         → IfOk result (λ next. IsDriven wanted before (done_seen W.seen R.seen next None) after) }
 {
-    frames_are_read();
     let closed = retire(link, false)?;
     with_closed(done, closed)
 }

@@ -1,5 +1,5 @@
 // What became of the keys that were asked.
-ghost use Rattle.std.specs.Prelude.{◌≡◌, ◌+◌, ◌^◌, ◌<◌, ◌++◌, ◌∷◌, [], length, map, slice_get, option_map, IfOk};
+ghost use Rattle.std.specs.Prelude.{◌≡◌, ◌==◌, ◌&&◌, ◌+◌, ◌^◌, ◌<◌, ◌++◌, ◌∷◌, [], length, map, slice_get, option_map, IfOk};
 ghost use Rattle.plugin_frames.specs.Frames.{Tail, IsFrames};
 ghost use Rattle.plugin_frames.specs.Cutting.{payloads_of};
 ghost use Rattle.swift_base.specs.Outside.{SinkSeen, SourceSeen};
@@ -61,11 +61,36 @@ fn replied(
     }
 }
 
-fn is_next(number: usize, payloads: &[Vec<u8>]) -> bool
-    requires { number + 1 < 2 ^ 64 }
-    ensures { result ≡ is_next number (payloads_of payloads.now) }
+// The key is the last one, and its request was not written whole.
+fn is_unwritten(count: usize, write_failed: bool, number: usize) -> bool
+    requires { number < count }
+    ensures { result ≡ (write_failed && (number + 1 == count)) }
 {
-    payloads.len() == number + 1 || (number == 0 && payloads.is_empty())
+    write_failed && number + 1 == count
+}
+
+fn is_ungreeted(alloc: Global, payloads: &[Vec<u8>], number: usize) -> Result<bool, AllocError>
+    ensures { IfOk result (λ is. is ≡ ((number == 0) && greets_badly (payloads_of payloads.now))) }
+{
+    if number != 0 {
+        return Ok(false);
+    }
+    greets_badly(alloc, payloads)
+}
+
+// A length above the limit stands in the key's place.
+fn is_too_long(given: &Given, number: usize) -> bool
+    requires { number + 1 < 2 ^ 64 }
+    ensures { result ≡ (given.now.too_long && is_next number (payloads_of given.now.payloads.items)) }
+{
+    let met = given.payloads.len();
+    given.too_long && (met == number + 1 || (number == 0 && met == 0))
+}
+
+fn payload_at(payloads: &[Vec<u8>], place: usize) -> Option<&Vec<u8>>
+    ensures { option_map (λ p. p.now.items) result ≡ slice_get (payloads_of payloads.now) place }
+{
+    payloads.get(place)
 }
 
 #[tactic(auto, unfolding(crate::specs::LinkTable::outcome_at))]
@@ -80,15 +105,14 @@ fn outcome_at(
     requires { number < count }
     ensures { IfOk result (λ o. o ≡ outcome_at count (payloads_of given.now.payloads.items) given.now.too_long stop write_failed number) }
 {
-    if write_failed && number + 1 == count {
+    if is_unwritten(count, write_failed, number) {
         return Ok(Some(Outcome::Failed(Cause::NoReply)));
     }
-    let bad = greets_badly(alloc, &given.payloads)?;
-    if number == 0 && bad {
+    if is_ungreeted(alloc, &given.payloads, number)? {
         return Ok(Some(Outcome::Failed(Cause::NoReply)));
     }
-    let too_long = given.too_long && is_next(number, &given.payloads);
-    replied(alloc, given.payloads.get(number + 1), too_long, stop)
+    let payload = payload_at(&given.payloads, number + 1);
+    replied(alloc, payload, is_too_long(given, number), stop)
 }
 
 /// The outcomes of a process's keys, in their order: none for a key that may still have been answered.

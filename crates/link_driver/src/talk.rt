@@ -38,11 +38,7 @@ fn close<W: Sink>(writer: &mut W)
     }
 }
 
-fn closed<W: Drop, R: Drop>(
-    link: Running<W, R>,
-    write_failed: bool,
-    stop: Stop,
-) -> Closed<W, R>
+fn closed<W: Drop, R: Drop>(link: Running<W, R>, write_failed: bool, stop: Stop) -> Closed<W, R>
     ensures { result ≡ record {
       module_name = link.module_name;
       asked = link.asked;

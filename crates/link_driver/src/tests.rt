@@ -4,12 +4,12 @@ ghost use Rattle.std.specs.Str.{IsUtf8};
 ghost use Rattle.plugin_messages.specs.Writable.{IsMacroWritable, IsSyntaxWritable, IsRequestWritable};
 ghost use Rattle.link_driver.specs.Driven.{driver_seen, IsSound};
 
-use crate::{Closed, Driver, Ran, Stop, Unstarted, ask, finish, link_table, run_table};
+use crate::{Closed, Driver, Ran, Stop, ask, finish, link_table, run_table};
 use plugin_messages::{MacroRef, Outcome, Parts, Request, Syntax, SyntaxKind};
 use std::alloc::{AllocError, Global};
 use std::process::Abort;
 use std::test::Fail;
-use swift_base::{Listed, MemScript, MemSink, MemSource, MemStarter, Text};
+use swift_base::{Listed, MemScript, MemSink, MemSource, MemStarter, Starter, Text};
 use unique_names::{Key, KeyStep, Role};
 
 const GREETED: &str =
@@ -24,8 +24,11 @@ const LOADED: &str =
 const GREETING: &str =
     "6\0\0\0\0\0\0\0{\"getCapability\":{\"capability\":{\"protocolVersion\":7}}}";
 
-const FIRST: &str =
-    "\u{c9}\0\0\0\0\0\0\0{\"expandFreestandingMacro\":{\"discriminator\":\"$s1M7e0_E\"}}";
+const FIRST: &[u8] =
+    b"\xb3\0\0\0\0\0\0\0{\"expandFreestandingMacro\":{\"discriminator\":\"$sX0e0_E\",\"macro\":{\"moduleName\":\"M\",\"name\":\"m\",\"typeName\":\"T\"},\"macroRole\":\"expression\",\"syntax\":{\"kind\":\"expression\",\"source\":\"#m\"}}}";
+
+const SECOND: &[u8] =
+    b"\xb3\0\0\0\0\0\0\0{\"expandFreestandingMacro\":{\"discriminator\":\"$sX1e0_E\",\"macro\":{\"moduleName\":\"M\",\"name\":\"m\",\"typeName\":\"T\"},\"macroRole\":\"expression\",\"syntax\":{\"kind\":\"expression\",\"source\":\"#m\"}}}";
 
 fn text(alloc: Global, of: &str) -> Result<Text, AllocError>
     ensures { IfOk result IsUtf8 }
@@ -88,12 +91,12 @@ fn script(alloc: Global, gives: &[&str], sizes: &[u32]) -> Result<MemScript, All
     })
 }
 
-// A run that asks these modules, one after another, for the uses at 0, 1 and so on.
-fn run(
+// Asks these modules, one after another, for the uses at 0, 1 and so on.
+fn run<P: Starter>(
     alloc: Global,
-    starter: &mut MemStarter,
+    starter: &mut P,
     modules: &[&str],
-) -> Result<Ran<MemSink, MemSource>, AllocError> {
+) -> Result<Ran<P::Writer, P::Reader>, AllocError> {
     let mut driver = Driver::new(alloc);
     let mut offset = 0u32;
     'modules: for module in modules {
@@ -104,46 +107,150 @@ fn run(
     finish(driver)
 }
 
-fn started(
+// The same of processes that give these texts; the starts in `failing` fail.
+fn run_on(
     alloc: Global,
-    scripts: Vec<MemScript>,
-    failing: Vec<u64>,
+    gives: &[&[&str]],
+    sizes: &[u32],
+    failing: &[u64],
     modules: &[&str],
 ) -> Result<Ran<MemSink, MemSource>, AllocError> {
-    let mut starter = MemStarter::new(alloc, scripts, failing);
+    let mut scripts = Vec::new(alloc);
+    for parts in gives {
+        scripts.push(script(alloc, parts, sizes)?)?;
+    }
+    let mut starter = MemStarter::new(alloc, scripts, Vec::from_slice(alloc, failing)?);
     run(alloc, &mut starter, modules)
 }
 
-fn expect(rt: &impl Abort, link: &Closed<MemSink, MemSource>, keys: usize, stop: Stop) {
-    assert_eq!(rt; link.asked.len(), keys);
-    assert_eq!(rt; link.stop, stop);
-    assert!(rt; !link.write_failed);
-}
-
-// One letter a key: `r` for a reply, `f` for a failure, `-` for none.
-fn letters(alloc: Global, link: &Closed<MemSink, MemSource>) -> Result<Vec<u8>, AllocError> {
+// One letter a key: `r` for a reply, `f` for a failure, `-` for none; a `|` after each process.
+fn letters(alloc: Global, links: &[Closed<MemSink, MemSource>]) -> Result<Vec<u8>, AllocError> {
     let mut letters = Vec::new(alloc);
-    for outcome in link_table(alloc, link)? {
-        letters.push(match outcome {
-            Some(Outcome::Reply { .. }) => b'r',
-            Some(Outcome::Failed(_)) => b'f',
-            None => b'-',
-        })?;
+    for link in links {
+        for outcome in link_table(alloc, link)? {
+            letters.push(match outcome {
+                Some(Outcome::Reply { .. }) => b'r',
+                Some(Outcome::Failed(_)) => b'f',
+                None => b'-',
+            })?;
+        }
+        letters.push(b'|')?;
     }
     Ok(letters)
+}
+
+fn expect(
+    rt: &impl Abort,
+    alloc: Global,
+    ran: &Ran<MemSink, MemSource>,
+    wanted: &[u8],
+) -> Result<(), AllocError> {
+    assert_eq!(rt; letters(alloc, &ran.links)?.as_slice(), wanted);
+    for link in &ran.links {
+        assert_eq!(rt; link.stop, Stop::Ended);
+        assert!(rt; !link.write_failed);
+    }
+    Ok(())
+}
+
+fn sent(alloc: Global) -> Result<Vec<u8>, AllocError> {
+    let mut sent = Vec::from_slice(alloc, GREETING.as_bytes())?;
+    sent.extend_from_slice(FIRST)?;
+    sent.extend_from_slice(SECOND)?;
+    Ok(sent)
 }
 
 #[test]
 fn two_requests_of_one_process(rt: HostRuntime) -> Result<(), Fail> {
     let alloc = rt.alloc();
     let sizes = [68, 69, 69];
-    let mut scripts = Vec::new(alloc);
-    scripts.push(script(alloc, &[GREETED, REPLIED, REPLIED], &sizes)?)?;
-    let ran = started(alloc, scripts, Vec::new(alloc), &["M", "M"])?;
-    assert_eq!(rt; ran.links.len(), 1);
-    expect(&rt, &ran.links[0], 2, Stop::Ended);
-    assert_eq!(rt; letters(alloc, &ran.links[0])?.as_slice(), b"rr".as_slice());
-    let held = String::from_utf8_lossy(alloc, ran.links[0].writer.held())?;
-    assert_eq!(rt; held.as_str(), "x");
+    let ran = run_on(
+        alloc,
+        &[&[GREETED, REPLIED, REPLIED]],
+        &sizes,
+        &[],
+        &["M", "M"],
+    )?;
+    expect(&rt, alloc, &ran, b"rr|".as_slice())?;
+    let sent = sent(alloc)?;
+    assert_eq!(rt; ran.links[0].writer.held(), sent.as_slice());
+    assert_eq!(rt; ran.links[0].got.len(), 206);
+    assert_eq!(rt; run_table(alloc, &ran.links, &ran.unstarted)?.len(), 2);
+    Ok(())
+}
+
+#[test]
+fn pieces_of_one_byte(rt: HostRuntime) -> Result<(), Fail> {
+    let alloc = rt.alloc();
+    let sizes = Vec::from_elem(alloc, 1u32, 206)?;
+    let ran = run_on(
+        alloc,
+        &[&[GREETED, REPLIED, REPLIED]],
+        &sizes,
+        &[],
+        &["M", "M"],
+    )?;
+    expect(&rt, alloc, &ran, b"rr|".as_slice())?;
+    Ok(())
+}
+
+#[test]
+fn process_ends_after_its_greeting(rt: HostRuntime) -> Result<(), Fail> {
+    let alloc = rt.alloc();
+    let gives: [&[&str]; 2] = [&[GREETED], &[GREETED, REPLIED]];
+    let ran = run_on(alloc, &gives, &[], &[], &["M", "M"])?;
+    expect(&rt, alloc, &ran, b"f|r|".as_slice())?;
+    Ok(())
+}
+
+#[test]
+fn other_answer_retires(rt: HostRuntime) -> Result<(), Fail> {
+    let alloc = rt.alloc();
+    let sizes = [68, 68, 69];
+    let gives: [&[&str]; 2] = [&[GREETED, LOADED, REPLIED], &[GREETED, REPLIED]];
+    let ran = run_on(alloc, &gives, &sizes, &[], &["M", "M"])?;
+    expect(&rt, alloc, &ran, b"f|r|".as_slice())?;
+    let gives: [&[&str]; 2] = [&[LOADED, REPLIED], &[GREETED, REPLIED]];
+    let ran = run_on(alloc, &gives, &sizes, &[], &["M", "M"])?;
+    expect(&rt, alloc, &ran, b"f|r|".as_slice())?;
+    Ok(())
+}
+
+#[test]
+fn bytes_behind_a_reply_retire(rt: HostRuntime) -> Result<(), Fail> {
+    let alloc = rt.alloc();
+    let gives: [&[&str]; 2] = [&[GREETED, REPLIED, REPLIED], &[GREETED, REPLIED]];
+    let ran = run_on(alloc, &gives, &[], &[], &["M", "M"])?;
+    expect(&rt, alloc, &ran, b"r|r|".as_slice())?;
+    // In a later piece they stand in the next reply's place.
+    let gives: [&[&str]; 2] = [&[GREETED, REPLIED, "xxxxxxxx"], &[GREETED, REPLIED]];
+    let ran = run_on(alloc, &gives, &[68, 69, 8], &[], &["M", "M", "M"])?;
+    expect(&rt, alloc, &ran, b"rf|r|".as_slice())?;
+    Ok(())
+}
+
+#[test]
+fn failed_start(rt: HostRuntime) -> Result<(), Fail> {
+    let alloc = rt.alloc();
+    let ran = run_on(alloc, &[&[GREETED, REPLIED]], &[], &[0], &["M", "M"])?;
+    expect(&rt, alloc, &ran, b"r|".as_slice())?;
+    assert_eq!(rt; ran.unstarted.len(), 1);
+    assert_eq!(rt; (ran.unstarted[0].before, ran.unstarted[0].after), (0, 1));
+    assert_eq!(rt; ran.unstarted[0].key.steps[0].offset, 0);
+    assert_eq!(rt; run_table(alloc, &ran.links, &ran.unstarted)?.len(), 2);
+    Ok(())
+}
+
+#[test]
+fn another_module(rt: HostRuntime) -> Result<(), Fail> {
+    let alloc = rt.alloc();
+    let gives: [&[&str]; 3] = [
+        &[GREETED, REPLIED],
+        &[GREETED, REPLIED],
+        &[GREETED, REPLIED],
+    ];
+    let ran = run_on(alloc, &gives, &[], &[], &["M", "N", "M"])?;
+    expect(&rt, alloc, &ran, b"r|r|r|".as_slice())?;
+    assert_eq!(rt; ran.links[1].module_name.bytes(), b"N".as_slice());
     Ok(())
 }

@@ -13,5 +13,5 @@ returns g c = λ wanted before after driven.
     by_three c.with_closed.result _ _ _ _
     (λ next closed unstarted room. subst (λ (d : DriverSeen). IsDriven wanted before d after)
     (sym (same_seen _ _ (ap (map seen) closed ∙ map-append seen _ _) unstarted room refl))
-    (retired wanted before after done (running_seen g.W.Sink.seen g.R.Source.seen c.args.link) (seen c.in_ok-closed.closed) c.frames_are_read.ensures.none c.in_ok-closed.ensures driven))
+    (retired wanted before after done (running_seen g.W.Sink.seen g.R.Source.seen c.args.link) (seen c.in_ok-closed.closed) c.in_ok-closed.ensures driven))
     c.with_closed.ensures.closed c.with_closed.ensures.unstarted c.with_closed.ensures.room
