@@ -40,7 +40,7 @@ fn inside_of(alloc: Global, text: &[u8], element: &Element) -> Result<Inside, Al
             inner,
             right: _,
         } => {
-            let mut list = Vec::new(alloc);
+            let mut list = Vec::with_capacity(alloc, inner.len())?;
             'inner: for part in inner.iter() {
                 add(&mut list, inside_of(alloc, text, part)?)?;
             }
@@ -55,7 +55,7 @@ fn inside_of(alloc: Global, text: &[u8], element: &Element) -> Result<Inside, Al
 pub fn insides(alloc: Global, text: &[u8], elements: &[Element]) -> Result<Vec<Inside>, AllocError>
     ensures { IfOk result (λ list. list.items ≡ insides text.now (forest_of elements.now)) }
 {
-    let mut list = Vec::new(alloc);
+    let mut list = Vec::with_capacity(alloc, elements.len())?;
     'elements: for element in elements {
         add(&mut list, inside_of(alloc, text, element)?)?;
     }
