@@ -129,7 +129,7 @@ fn add_inside(alloc: Global, insides: &[Inside], findings: &mut Findings) -> Res
     add_copies(alloc, &mut findings.locals, first_locals(insides))
 }
 
-fn add_copies(alloc: Global, list: &mut Vec<Attr>, attrs: &[Attr]) -> Result<(), AllocError>
+pub fn add_copies(alloc: Global, list: &mut Vec<Attr>, attrs: &[Attr]) -> Result<(), AllocError>
     ensures { OnOk result (list.new.items ≡ list.old.items ++ attrs.now) }
 {
     'attributes: for attr in attrs {

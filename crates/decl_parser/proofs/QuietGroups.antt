@@ -1,0 +1,77 @@
+-- What is read of a list in which no macro use and no attribute begins.
+use Rattle.std.proofs.Common.{◌≡◌, refl, ℕ, suc, ◌∙◌, ap, sym, List, [], ◌∷◌, ◌++◌, length, map, drop, nat_lt, Bool, true, false, if◌then◌else◌}
+use Rattle.std.specs.List.{flat_map}
+use Rattle.swift_lexer.specs.declared.element.Element.{Element}
+use Rattle.swift_lexer.specs.Trees.{Forest, forest_of}
+use Rattle.element_marks.specs.declared.mark.Mark.{Mark}
+use Rattle.element_marks.specs.Heads.{attribute_length, by_length}
+use Rattle.element_marks.specs.Uses.{use_length}
+use Rattle.element_marks.specs.Levels.{level, own_marks}
+use Rattle.element_marks.specs.Quiet.{is_quiet}
+use Rattle.element_marks.proofs.Quieter.{Quiet, bare, bare_level, quiet_attribute, quiet_drop, quiet_level, quiet_use}
+use Rattle.decl_parser.specs.declared.inside.Inside.{Inside}
+use Rattle.decl_parser.specs.Attributes.{attr_of}
+use Rattle.decl_parser.specs.Bindings.{names_here, names_inside}
+use Rattle.decl_parser.specs.Found.{Found, found_from, found_in, found_step, joined, within}
+use Rattle.decl_parser.specs.Levels.{insides}
+use Rattle.decl_parser.proofs.FoundWalks.{other_step}
+
+names_bare : (marks : List Mark) (insides : List Inside) → names_inside marks insides ≡ names_inside (map bare marks) insides
+names_bare [] insides = refl
+names_bare (mark ∷ []) insides = refl
+names_bare (mark ∷ next ∷ marks) insides = ap (λ l. names_here mark (next ∷ marks) insides ++ l) (names_bare (next ∷ marks) (drop 1 insides))
+
+-- names are those of the elements by their own text
+pub names_level : (text : List ℕ) (forest : Forest) (insides : List Inside) → names_inside (own_marks text forest) insides ≡ names_inside (level text forest) insides
+names_level text forest insides =
+    names_bare (own_marks text forest) insides
+    ∙ ap (λ l. names_inside l insides) (sym (bare_level text forest))
+    ∙ sym (names_bare (level text forest) insides)
+
+length_bare : (marks : List Mark) → length (map bare marks) ≡ length marks
+length_bare [] = refl
+length_bare (mark ∷ marks) = ap suc (length_bare marks)
+
+length_own : (text : List ℕ) (elements : List Element) → length (own_marks text (forest_of elements)) ≡ length elements
+length_own text [] = refl
+length_own text (element ∷ elements) = ap suc (length_own text elements)
+
+pub length_level : (text : List ℕ) (elements : List Element) → length (level text (forest_of elements)) ≡ length elements
+length_level text elements =
+    sym (length_bare (level text (forest_of elements)))
+    ∙ ap length (bare_level text (forest_of elements))
+    ∙ length_bare (own_marks text (forest_of elements))
+    ∙ length_own text elements
+
+pub length_insides : (text : List ℕ) (elements : List Element) → length (insides text (forest_of elements)) ≡ length elements
+unfolding insides
+length_insides text [] = refl
+length_insides text (element ∷ elements) = ap suc (length_insides text elements)
+
+neither : (b : Bool) (n : ℕ) → n ≡ 0 → 0 ≡ (if b then n else 0)
+neither true n is = sym is
+neither false n is = refl
+
+quiet_step : (list : List Mark) (at : ℕ) (insides : List Inside) → Quiet list → found_step [] 0 list at insides ≡ record { more = 0; found = within insides }
+quiet_step list at insides quiet =
+    let here = quiet_drop at list quiet in
+    let none = quiet_attribute (drop at list) here in
+    other_step (use_length [] _ (drop at list)) (if nat_lt at 0 then attribute_length (drop at list) else 0) (drop at list) insides
+    (sym (quiet_use [] _ (drop at list) here)) (neither (nat_lt at 0) (attribute_length (drop at list)) none)
+    ∙ ap (λ n. record { more = 0; found = record { attrs = []; uses = (within insides).uses; locals = by_length n [] (λ more. attr_of (drop at list) insides ∷ []) ++ (within insides).locals } }) none
+
+abbrev pub all_within : List Inside → Found
+all_within insides = record { attrs = []; uses = flat_map (λ inside. inside.uses) insides; locals = flat_map (λ inside. inside.locals) insides }
+
+quiet_from : (list : List Mark) (at : ℕ) (insides : List Inside) → Quiet list → found_from [] 0 list at 0 (length insides) insides ≡ all_within insides
+quiet_from list at [] quiet = refl
+quiet_from list at (inside ∷ insides) quiet =
+    ap (λ step. joined step.found (found_from [] 0 list (suc at) step.more (length insides) insides)) (quiet_step list at (inside ∷ insides) quiet)
+    ∙ ap (joined (within (inside ∷ insides))) (quiet_from list (suc at) insides quiet)
+
+-- what is found is what stands inside the elements
+pub quiet_found : (text : List ℕ) (elements : List Element) (inside : List Inside) → is_quiet (forest_of elements) ≡ true → length inside ≡ length elements → all_within inside ≡ found_in (level text (forest_of elements)) inside
+unfolding found_in
+quiet_found text elements inside quiet beside =
+    sym (ap (λ n. found_from [] 0 (level text (forest_of elements)) 0 0 n inside) (length_level text elements ∙ sym beside)
+    ∙ quiet_from (level text (forest_of elements)) 0 inside (quiet_level text (forest_of elements) quiet))

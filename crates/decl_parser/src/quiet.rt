@@ -1,0 +1,147 @@
+// What stands inside a group in whose list no macro use and no attribute begins, without the marks of the list.
+
+ghost use Rattle.std.specs.Prelude.{◌≡◌, ◌++◌, ◌∷◌, [], ◌&&◌, not, IfOk, OnOk, length, if◌then◌else◌, true, false};
+ghost use Rattle.std.specs.List.{flat_map};
+ghost use Rattle.swift_lexer.specs.Trees.{forest_of, tree_of};
+ghost use Rattle.element_marks.specs.Heads.{first_is};
+ghost use Rattle.element_marks.specs.Levels.{level, own_marks};
+ghost use Rattle.element_marks.specs.Marks.{mark_of};
+ghost use Rattle.element_marks.specs.Quiet.{is_quiet, may_list_accessors};
+ghost use Rattle.element_marks.specs.Sorts.{is_colon, is_colon_sort, is_name_sort, is_parentheses_sort};
+ghost use Rattle.element_marks.specs.Spans.{name_of};
+ghost use Rattle.element_marks.specs.Words.{is_underscore};
+ghost use Rattle.decl_parser.specs.Bindings.{names_here, names_inside};
+ghost use Rattle.decl_parser.specs.Levels.{read_inside};
+
+use crate::found::add_copies;
+use crate::inside::{Inside, first_names};
+use crate::lists::{add, behind};
+use element_marks::{Sort, is_underscore, mark_of, name_of, sort_of};
+use std::alloc::{AllocError, Global};
+use swift_base::{Listed, Span};
+use swift_lexer::Element;
+use swift_tree::{Attr, MacroUse};
+
+/// What stands inside a group, by the elements of its list.
+pub fn read_quiet(
+    alloc: Global,
+    text: &[u8],
+    elements: &[Element],
+    insides: &[Inside],
+) -> Result<Inside, AllocError>
+    requires quiet { is_quiet (forest_of elements.now) ≡ true }
+    requires no_accessor { may_list_accessors text.now (forest_of elements.now) ≡ false }
+    requires beside { length insides.now ≡ length elements.now }
+    ensures { IfOk result (λ inside. inside ≡ read_inside (level text.now (forest_of elements.now)) insides.now) }
+{
+    Ok(Inside {
+        names: Listed::from_vec(element_names(alloc, text, elements, insides)?),
+        observes: false,
+        lists_accessors: false,
+        uses: Listed::from_vec(all_uses(alloc, insides)?),
+        locals: Listed::from_vec(all_locals(alloc, insides)?),
+    })
+}
+
+/// The names in a pattern's parentheses; a label is none.
+fn element_names(
+    alloc: Global,
+    text: &[u8],
+    elements: &[Element],
+    insides: &[Inside],
+) -> Result<Vec<Span>, AllocError>
+    ensures { IfOk result (λ names. names.items ≡ names_inside (own_marks text.now (forest_of elements.now)) insides.now) }
+{
+    let mut names = Vec::new(alloc);
+    let mut rest = elements;
+    let mut within = insides;
+    'elements: while let Some((element, others)) = rest.split_first() {
+        add_element_names(&mut names, text, element, others, within)?;
+        rest = others;
+        within = behind(within, 1);
+    }
+    Ok(names)
+}
+
+/// Adds the names that an element gives, behind which `others` stand, and inside which the first of `insides` does.
+fn add_element_names(
+    names: &mut Vec<Span>,
+    text: &[u8],
+    element: &Element,
+    others: &[Element],
+    insides: &[Inside],
+) -> Result<(), AllocError>
+    ensures { OnOk result (names.new.items ≡ names.old.items ++ names_here (mark_of text.now (tree_of element.now)) (own_marks text.now (forest_of others.now)) insides.now) }
+{
+    let sort = sort_of(text, element);
+    if is_parentheses_sort(sort) {
+        return names.extend_from_slice(first_names(insides));
+    }
+    if is_name_sort(sort) {
+        return add_name(names, text, element, others);
+    }
+    Ok(())
+}
+
+/// Adds the name that the element is, unless it is a label or `_`.
+fn add_name(
+    names: &mut Vec<Span>,
+    text: &[u8],
+    element: &Element,
+    others: &[Element],
+) -> Result<(), AllocError>
+    ensures { OnOk result (names.new.items ≡ names.old.items ++ (if not (is_underscore (mark_of text.now (tree_of element.now)).keyword) && not (first_is is_colon (own_marks text.now (forest_of others.now))) then name_of (mark_of text.now (tree_of element.now)) ∷ [] else [])) }
+{
+    let mark = mark_of(text, element);
+    if !is_underscore(mark.keyword) && !first_colon(text, others) {
+        return add(names, name_of(&mark));
+    }
+    Ok(())
+}
+
+fn first_colon(text: &[u8], elements: &[Element]) -> bool
+    ensures { result ≡ first_is is_colon (own_marks text.now (forest_of elements.now)) }
+{
+    match elements.first() {
+        Some(element) => is_colon_sort(sort_of(text, element)),
+        None => false,
+    }
+}
+
+fn is_parentheses_sort(sort: Sort) -> bool
+    ensures { result ≡ is_parentheses_sort sort }
+{
+    matches!(sort, Sort::Parentheses)
+}
+
+fn is_name_sort(sort: Sort) -> bool
+    ensures { result ≡ is_name_sort sort }
+{
+    matches!(sort, Sort::Word | Sort::Quoted)
+}
+
+fn is_colon_sort(sort: Sort) -> bool
+    ensures { result ≡ is_colon_sort sort }
+{
+    matches!(sort, Sort::Colon)
+}
+
+fn all_uses(alloc: Global, insides: &[Inside]) -> Result<Vec<MacroUse>, AllocError>
+    ensures { IfOk result (λ uses. uses.items ≡ flat_map (λ inside. inside.uses) insides.now) }
+{
+    let mut uses = Vec::new(alloc);
+    'insides: for inside in insides {
+        uses.extend_from_slice(inside.uses.items())?;
+    }
+    Ok(uses)
+}
+
+fn all_locals(alloc: Global, insides: &[Inside]) -> Result<Vec<Attr>, AllocError>
+    ensures { IfOk result (λ locals. locals.items ≡ flat_map (λ inside. inside.locals) insides.now) }
+{
+    let mut locals = Vec::new(alloc);
+    'insides: for inside in insides {
+        add_copies(alloc, &mut locals, inside.locals.items())?;
+    }
+    Ok(locals)
+}
