@@ -1,18 +1,19 @@
 -- What is read of a list in which no macro use and no attribute begins.
-use Rattle.std.proofs.Common.{◌≡◌, refl, ℕ, suc, ◌∙◌, ap, sym, List, [], ◌∷◌, ◌++◌, length, map, drop, nat_lt, Bool, true, false, if◌then◌else◌}
-use Rattle.std.specs.List.{flat_map}
+use Rattle.std.proofs.Common.{◌≡◌, refl, ℕ, zero, suc, ◌+◌, ◌≤◌, ◌∙◌, ap, sym, subst, arith, drop-drop, List, [], ◌∷◌, ◌++◌, length, map, drop, nat_lt, Bool, true, false, ◌||◌, if◌then◌else◌}
+use Rattle.std.specs.List.{flat_map, list_any}
 use Rattle.swift_lexer.specs.declared.element.Element.{Element}
 use Rattle.swift_lexer.specs.Trees.{Forest, forest_of}
 use Rattle.element_marks.specs.declared.mark.Mark.{Mark}
 use Rattle.element_marks.specs.Heads.{attribute_length, by_length}
 use Rattle.element_marks.specs.Uses.{use_length}
+use Rattle.element_marks.specs.Sorts.{is_at, is_use}
 use Rattle.element_marks.specs.Levels.{level, own_marks}
 use Rattle.element_marks.specs.Quiet.{is_quiet}
 use Rattle.element_marks.proofs.Quieter.{Quiet, bare, bare_level, quiet_attribute, quiet_drop, quiet_level, quiet_use}
 use Rattle.decl_parser.specs.declared.inside.Inside.{Inside}
 use Rattle.decl_parser.specs.Attributes.{attr_of}
 use Rattle.decl_parser.specs.Bindings.{names_here, names_inside}
-use Rattle.decl_parser.specs.Found.{Found, found_from, found_in, found_step, joined, within}
+use Rattle.decl_parser.specs.Found.{all_within, found_from, found_in, found_step, joined, within}
 use Rattle.decl_parser.specs.Levels.{insides}
 use Rattle.decl_parser.proofs.FoundWalks.{other_step}
 
@@ -52,26 +53,42 @@ neither : (b : Bool) (n : ℕ) → n ≡ 0 → 0 ≡ (if b then n else 0)
 neither true n is = sym is
 neither false n is = refl
 
-quiet_step : (list : List Mark) (at : ℕ) (insides : List Inside) → Quiet list → found_step [] 0 list at insides ≡ record { more = 0; found = within insides }
-quiet_step list at insides quiet =
-    let here = quiet_drop at list quiet in
-    let none = quiet_attribute (drop at list) here in
-    other_step (use_length [] _ (drop at list)) (if nat_lt at 0 then attribute_length (drop at list) else 0) (drop at list) insides
-    (sym (quiet_use [] _ (drop at list) here)) (neither (nat_lt at 0) (attribute_length (drop at list)) none)
+-- so is what is found in elements of which none begins a use or an attribute
+quiet_step : (blocks : List ℕ) (own : ℕ) (list : List Mark) (at : ℕ) (insides : List Inside) → Quiet (drop at list) → found_step blocks own list at insides ≡ record { more = 0; found = within insides }
+quiet_step blocks own list at insides quiet =
+    let none = quiet_attribute (drop at list) quiet in
+    other_step (use_length blocks _ (drop at list)) (if nat_lt at own then attribute_length (drop at list) else 0) (drop at list) insides
+    (sym (quiet_use blocks _ (drop at list) quiet)) (neither (nat_lt at own) (attribute_length (drop at list)) none)
     ∙ ap (λ n. record { more = 0; found = record { attrs = []; uses = (within insides).uses; locals = by_length n [] (λ more. attr_of (drop at list) insides ∷ []) ++ (within insides).locals } }) none
 
-abbrev pub all_within : List Inside → Found
-all_within insides = record { attrs = []; uses = flat_map (λ inside. inside.uses) insides; locals = flat_map (λ inside. inside.locals) insides }
+quiet_next : (at : ℕ) (list : List Mark) → Quiet (drop at list) → Quiet (drop (suc at) list)
+quiet_next at list quiet =
+    let next : at + 1 ≡ suc at = omega arith in
+    subst Quiet (drop-drop 1 at list ∙ ap (λ n. drop n list) next) (quiet_drop 1 (drop at list) quiet)
 
-quiet_from : (list : List Mark) (at : ℕ) (insides : List Inside) → Quiet list → found_from [] 0 list at 0 (length insides) insides ≡ all_within insides
-quiet_from list at [] quiet = refl
-quiet_from list at (inside ∷ insides) quiet =
-    ap (λ step. joined step.found (found_from [] 0 list (suc at) step.more (length insides) insides)) (quiet_step list at (inside ∷ insides) quiet)
-    ∙ ap (joined (within (inside ∷ insides))) (quiet_from list (suc at) insides quiet)
+pub quiet_from : (blocks : List ℕ) (own : ℕ) (list : List Mark) (at left : ℕ) (insides : List Inside) → Quiet (drop at list) → length insides ≤ left → found_from blocks own list at 0 left insides ≡ all_within insides
+quiet_from blocks own list at zero [] quiet beside = refl
+quiet_from blocks own list at zero (inside ∷ insides) quiet beside = absurd (omega (arith, beside))
+quiet_from blocks own list at (suc left) [] quiet beside =
+    ap (λ step. joined step.found (found_from blocks own list (suc at) step.more left [])) (quiet_step blocks own list at [] quiet)
+    ∙ quiet_from blocks own list (suc at) left [] (quiet_next at list quiet) (omega arith)
+quiet_from blocks own list at (suc left) (inside ∷ insides) quiet beside =
+    ap (λ step. joined step.found (found_from blocks own list (suc at) step.more left insides)) (quiet_step blocks own list at (inside ∷ insides) quiet)
+    ∙ ap (joined (within (inside ∷ insides))) (quiet_from blocks own list (suc at) left insides (quiet_next at list quiet) (omega (arith, beside)))
 
 -- what is found is what stands inside the elements
 pub quiet_found : (text : List ℕ) (elements : List Element) (inside : List Inside) → is_quiet (forest_of elements) ≡ true → length inside ≡ length elements → all_within inside ≡ found_in (level text (forest_of elements)) inside
 unfolding found_in
 quiet_found text elements inside quiet beside =
-    sym (ap (λ n. found_from [] 0 (level text (forest_of elements)) 0 0 n inside) (length_level text elements ∙ sym beside)
-    ∙ quiet_from (level text (forest_of elements)) 0 inside (quiet_level text (forest_of elements) quiet))
+    sym (quiet_from [] 0 (level text (forest_of elements)) 0 (length (level text (forest_of elements))) inside (quiet_level text (forest_of elements) quiet)
+    (omega (arith, length_level text elements, beside)))
+
+neither_of : (a b : Bool) → (a || b) ≡ false → (a ≡ false) × (b ≡ false)
+neither_of true b is = cc
+neither_of false b is = (refl, is)
+
+pub quiet_none : (marks : List Mark) → list_any (λ mark. is_use mark || is_at mark) marks ≡ false → Quiet marks
+quiet_none [] is = tt
+quiet_none (mark ∷ marks) is =
+    let parts = neither_of (is_use mark || is_at mark) (list_any (λ m. is_use m || is_at m) marks) is in
+    (parts.0, quiet_none marks parts.1)

@@ -1,6 +1,6 @@
 // What stands inside each element of a list, at every depth.
 
-ghost use Rattle.std.specs.Prelude.{◌≡◌, IfOk, length, option_map};
+ghost use Rattle.std.specs.Prelude.{◌≡◌, IfOk, IfSome, length, option_map};
 ghost use Rattle.swift_lexer.specs.Trees.{forest_of, tree_of};
 ghost use Rattle.element_marks.specs.Levels.{level};
 ghost use Rattle.element_marks.specs.Quiet.{is_quiet, may_list_accessors};
@@ -33,6 +33,21 @@ pub fn group_inside(element: &Element) -> Option<&[Element]>
     }
 }
 
+/// What stands inside an element, where it is a token.
+#[tactic(auto, unfolding(crate::specs::Levels::inside_of))]
+fn inside_leaf(alloc: Global, text: &[u8], element: &Element) -> Option<Inside>
+    ensures { IfSome result (λ inside. inside ≡ inside_of text.now (tree_of element.now)) }
+{
+    match element {
+        Element::Leaf(_) => Some(nothing_inside(alloc)),
+        Element::Nest {
+            left: _,
+            inner: _,
+            right: _,
+        } => None,
+    }
+}
+
 /// What stands inside an element.
 #[tactic(auto, unfolding(crate::specs::Levels::inside_of, crate::specs::Levels::insides))]
 fn inside_of(alloc: Global, text: &[u8], element: &Element) -> Result<Inside, AllocError>
@@ -47,7 +62,10 @@ fn inside_of(alloc: Global, text: &[u8], element: &Element) -> Result<Inside, Al
         } => {
             let mut list = Vec::with_capacity(alloc, inner.len())?;
             'inner: for part in inner.iter() {
-                add(&mut list, inside_of(alloc, text, part)?)?;
+                match inside_leaf(alloc, text, part) {
+                    Some(inside) => list.push(inside)?,
+                    None => list.push(inside_of(alloc, text, part)?)?,
+                }
             }
             read_group(alloc, text, inner, &list)
         }
@@ -61,7 +79,10 @@ pub fn insides(alloc: Global, text: &[u8], elements: &[Element]) -> Result<Vec<I
 {
     let mut list = Vec::with_capacity(alloc, elements.len())?;
     'elements: for element in elements {
-        add(&mut list, inside_of(alloc, text, element)?)?;
+        match inside_leaf(alloc, text, element) {
+            Some(inside) => list.push(inside)?,
+            None => list.push(inside_of(alloc, text, element)?)?,
+        }
     }
     Ok(list)
 }

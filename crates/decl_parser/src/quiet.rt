@@ -126,7 +126,7 @@ fn is_colon_sort(sort: Sort) -> bool
     matches!(sort, Sort::Colon)
 }
 
-fn all_uses(alloc: Global, insides: &[Inside]) -> Result<Vec<MacroUse>, AllocError>
+pub fn all_uses(alloc: Global, insides: &[Inside]) -> Result<Vec<MacroUse>, AllocError>
     ensures { IfOk result (λ uses. uses.items ≡ flat_map (λ inside. inside.uses) insides.now) }
 {
     let mut uses = Vec::new(alloc);
@@ -136,7 +136,7 @@ fn all_uses(alloc: Global, insides: &[Inside]) -> Result<Vec<MacroUse>, AllocErr
     Ok(uses)
 }
 
-fn all_locals(alloc: Global, insides: &[Inside]) -> Result<Vec<Attr>, AllocError>
+pub fn all_locals(alloc: Global, insides: &[Inside]) -> Result<Vec<Attr>, AllocError>
     ensures { IfOk result (λ locals. locals.items ≡ flat_map (λ inside. inside.locals) insides.now) }
 {
     let mut locals = Vec::new(alloc);

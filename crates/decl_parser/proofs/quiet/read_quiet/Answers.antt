@@ -4,9 +4,9 @@ use Rattle.element_marks.specs.Accessors.{lists_accessors, observes_from}
 use Rattle.element_marks.specs.Levels.{level}
 use Rattle.element_marks.proofs.Quieter.{quiet_accessors}
 use Rattle.decl_parser.specs.Bindings.{names_inside}
-use Rattle.decl_parser.specs.Found.{found_in}
+use Rattle.decl_parser.specs.Found.{all_within, found_in}
 use Rattle.decl_parser.specs.Levels.{read_inside}
-use Rattle.decl_parser.proofs.QuietGroups.{all_within, names_level, quiet_found}
+use Rattle.decl_parser.proofs.QuietGroups.{names_level, quiet_found}
 use Rattle.decl_parser.proofs.quiet.read_quiet.Goals as goal
 
 pub returns : goal.returns
