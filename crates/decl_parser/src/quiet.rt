@@ -131,7 +131,7 @@ pub fn all_uses(alloc: Global, insides: &[Inside]) -> Result<Vec<MacroUse>, Allo
 {
     let mut uses = Vec::new(alloc);
     'insides: for inside in insides {
-        uses.extend_from_slice(inside.uses.items())?;
+        add_uses(&mut uses, inside.uses.items())?;
     }
     Ok(uses)
 }
@@ -141,7 +141,27 @@ pub fn all_locals(alloc: Global, insides: &[Inside]) -> Result<Vec<Attr>, AllocE
 {
     let mut locals = Vec::new(alloc);
     'insides: for inside in insides {
-        add_copies(alloc, &mut locals, inside.locals.items())?;
+        add_locals(alloc, &mut locals, inside.locals.items())?;
     }
     Ok(locals)
+}
+
+// Most elements have none.
+
+fn add_uses(list: &mut Vec<MacroUse>, uses: &[MacroUse]) -> Result<(), AllocError>
+    ensures { OnOk result (list.new.items ≡ list.old.items ++ uses.now) }
+{
+    if uses.is_empty() {
+        return Ok(());
+    }
+    list.extend_from_slice(uses)
+}
+
+fn add_locals(alloc: Global, list: &mut Vec<Attr>, attrs: &[Attr]) -> Result<(), AllocError>
+    ensures { OnOk result (list.new.items ≡ list.old.items ++ attrs.now) }
+{
+    if attrs.is_empty() {
+        return Ok(());
+    }
+    add_copies(alloc, list, attrs)
 }
