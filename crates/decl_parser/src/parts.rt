@@ -329,10 +329,11 @@ fn last_block(bounds: &[Bound]) -> Option<BlockAt>
 fn only_bindings(alloc: Global, bounds: Vec<Bound>) -> Result<Vec<Binding>, AllocError>
     ensures { IfOk result (λ bindings. bindings.items ≡ map (λ bound. bound.binding) bounds.items) }
 {
-    bounds
-        .into_iter()
-        .map(|bound| only_binding(bound))
-        .collect(alloc)
+    let mut bindings = Vec::with_capacity(alloc, bounds.len())?;
+    'bounds: for bound in bounds {
+        bindings.push(only_binding(bound))?;
+    }
+    Ok(bindings)
 }
 
 fn only_binding(bound: Bound) -> Binding
