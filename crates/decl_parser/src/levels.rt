@@ -11,7 +11,7 @@ use crate::bindings::names_inside;
 use crate::found::{Findings, found_in};
 use crate::inside::{Inside, nothing_inside};
 use crate::lists::{add, behind, upto};
-use crate::quiet::read_quiet;
+use crate::quiet::{is_simple, read_quiet, read_simple};
 use element_marks::{
     Mark, is_quiet, lists_accessors, marks_in, may_list_accessors, observes,
 };
@@ -60,6 +60,9 @@ fn inside_of(alloc: Global, text: &[u8], element: &Element) -> Result<Inside, Al
             inner,
             right: _,
         } => {
+            if is_simple(text, inner) {
+                return read_simple(alloc, text, inner);
+            }
             let mut list = Vec::with_capacity(alloc, inner.len())?;
             'inner: for part in inner.iter() {
                 match inside_leaf(alloc, text, part) {

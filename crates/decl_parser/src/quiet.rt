@@ -11,12 +11,14 @@ ghost use Rattle.element_marks.specs.Sorts.{is_colon, is_colon_sort, is_name_sor
 ghost use Rattle.element_marks.specs.Spans.{name_of};
 ghost use Rattle.element_marks.specs.Words.{is_underscore};
 ghost use Rattle.decl_parser.specs.Bindings.{names_here, names_inside};
-ghost use Rattle.decl_parser.specs.Levels.{read_inside};
+ghost use Rattle.decl_parser.specs.Levels.{insides, is_flat, is_leaf, is_simple, read_inside};
 
 use crate::found::add_copies;
 use crate::inside::{Inside, first_names};
 use crate::lists::{add, behind};
-use element_marks::{Sort, is_underscore, mark_of, name_of, sort_of};
+use element_marks::{
+    Sort, is_quiet, is_underscore, mark_of, may_list_accessors, name_of, sort_of,
+};
 use std::alloc::{AllocError, Global};
 use swift_base::{Listed, Span};
 use swift_lexer::Element;
@@ -41,6 +43,52 @@ pub fn read_quiet(
         uses: Listed::from_vec(all_uses(alloc, insides)?),
         locals: Listed::from_vec(all_locals(alloc, insides)?),
     })
+}
+
+/// What stands inside a group, by the elements of its list, of which none is a group.
+pub fn read_simple(alloc: Global, text: &[u8], elements: &[Element]) -> Result<Inside, AllocError>
+    requires { is_simple text.now (forest_of elements.now) ≡ true }
+    ensures { IfOk result (λ inside. inside ≡ read_inside (level text.now (forest_of elements.now)) (insides text.now (forest_of elements.now))) }
+{
+    Ok(Inside {
+        names: Listed::from_vec(element_names(alloc, text, elements, &[])?),
+        observes: false,
+        lists_accessors: false,
+        uses: Listed::from_vec(Vec::new(alloc)),
+        locals: Listed::from_vec(Vec::new(alloc)),
+    })
+}
+
+/// Whether no group, no use, no attribute and no accessor is among the elements.
+pub fn is_simple(text: &[u8], elements: &[Element]) -> bool
+    ensures { result ≡ is_simple text.now (forest_of elements.now) }
+{
+    is_flat(elements) && is_quiet(elements) && !may_list_accessors(text, elements)
+}
+
+/// Whether no element is a group.
+fn is_flat(elements: &[Element]) -> bool
+    ensures { result ≡ is_flat (forest_of elements.now) }
+{
+    'elements: for element in elements {
+        if !is_leaf(element) {
+            return false;
+        }
+    }
+    true
+}
+
+fn is_leaf(element: &Element) -> bool
+    ensures { result ≡ is_leaf (tree_of element.now) }
+{
+    match element {
+        Element::Leaf(_) => true,
+        Element::Nest {
+            left: _,
+            inner: _,
+            right: _,
+        } => false,
+    }
 }
 
 /// The names in a pattern's parentheses; a label is none.

@@ -1,4 +1,4 @@
-use Rattle.std.proofs.Common.{◌≡◌, ◌∙◌, ◌-◌, ◌≤◌, ap, sym, arith, subst, drop, length, IfOk}
+use Rattle.std.proofs.Common.{◌≡◌, ◌-◌, ◌≤◌, ap, sym, arith, subst, drop, length, IfOk}
 use Rattle.std.proofs.lemmas.List.{length-drop}
 use Rattle.element_marks.proofs.Quieter.{Quiet}
 use Rattle.decl_parser.specs.Found.{seen}
