@@ -12,9 +12,7 @@ use crate::found::{Findings, found_in};
 use crate::inside::{Inside, nothing_inside};
 use crate::lists::{add, behind, upto};
 use crate::quiet::{is_simple, read_quiet, read_simple};
-use element_marks::{
-    Mark, is_quiet, lists_accessors, marks_in, may_list_accessors, observes,
-};
+use element_marks::{Mark, is_quiet, lists_accessors, marks_in, may_list_accessors, observes};
 use std::alloc::{AllocError, Global};
 use swift_base::Listed;
 use swift_lexer::Element;

@@ -16,9 +16,7 @@ ghost use Rattle.decl_parser.specs.Levels.{insides, is_flat, is_leaf, is_simple,
 use crate::found::add_copies;
 use crate::inside::{Inside, first_names};
 use crate::lists::{add, behind};
-use element_marks::{
-    Sort, is_quiet, is_underscore, mark_of, may_list_accessors, name_of, sort_of,
-};
+use element_marks::{Sort, is_quiet, is_underscore, mark_of, may_list_accessors, name_of, sort_of};
 use std::alloc::{AllocError, Global};
 use swift_base::{Listed, Span};
 use swift_lexer::Element;

@@ -190,6 +190,7 @@ quiet_accessors text (cons tree forest) quiet is =
     let accessor = neither (is_modifier k || is_class k || is_accessor_modifier k) (is_accessor k) observer.0 in
     let of_accessor = neither (is_modifier k || is_class k) (is_accessor_modifier k) accessor.0 in
     let modifier = neither (is_modifier k) (is_class k) of_accessor.0 in
-    let absent = quiet_attribute (level text (cons tree forest)) (quiet_level text (cons tree forest) quiet) in
-    (sym (no_observer _ _ absent (no_modifier (is_modifier k) (is_class k) _ modifier.0 modifier.1) observer.1),
-    sym (no_accessors _ _ (no_word _ _ absent of_accessor.1 accessor.1)))
+    let absent = quiet_attribute (level text (cons tree forest)) (quiet_level text (cons tree forest) quiet) in (
+      sym (no_observer _ _ absent (no_modifier (is_modifier k) (is_class k) _ modifier.0 modifier.1) observer.1),
+      sym (no_accessors _ _ (no_word _ _ absent of_accessor.1 accessor.1)),
+    )

@@ -134,7 +134,10 @@ pub const WORDS: [(&[u8], Keyword); 72] = [
     (b"__consuming", Keyword::AccessorModifier),
     (b"unsafeAddress", Keyword::Accessor),
     (b"associatedtype", Keyword::Starts(Starter::Associatedtype)),
-    (b"precedencegroup", Keyword::Starts(Starter::Precedencegroup)),
+    (
+        b"precedencegroup",
+        Keyword::Starts(Starter::Precedencegroup),
+    ),
     (b"unsafeMutableAddress", Keyword::Accessor),
 ];
 
