@@ -1,5 +1,5 @@
 -- A list of elements cut into declarations: this project's own, after The Swift Programming Language, Declarations.
-use Rattle.std.specs.Prelude.{ℕ, zero, suc, ◌+◌, ◌-◌, ◌==◌, min, slice_get, List, [], ◌∷◌, ◌++◌, reverse, take, drop, length, Option, Some, None, option_map, Result, Ok, Err, Bool, true, false, not, if◌then◌else◌}
+use Rattle.std.specs.Prelude.{ℕ, zero, suc, ◌+◌, ◌-◌, ◌==◌, min, slice_get, List, [], ◌∷◌, ◌++◌, reverse, take, drop, length, Option, Some, None, option_map, Result, Ok, Err, not, if◌then◌else◌}
 use Rattle.swift_base.specs.declared.place.Span.{Span}
 use Rattle.swift_tree.specs.declared.item.Kind.{Kind}
 use Rattle.swift_tree.specs.declared.item.Kind.TheVariants as kind

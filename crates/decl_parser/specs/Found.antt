@@ -1,5 +1,6 @@
 -- The macro uses and the attributes of elements, at every depth: this project's own.
 use Rattle.std.specs.Prelude.{ℕ, zero, suc, nat_lt, List, [], ◌∷◌, ◌++◌, length, reverse, take, drop, if◌then◌else◌}
+use Rattle.std.specs.List.{flat_map}
 use Rattle.swift_tree.specs.declared.item.MacroUse.{MacroUse}
 use Rattle.swift_tree.specs.declared.item.Attr.{Attr}
 use Rattle.element_marks.specs.declared.mark.Mark.{Mark}
@@ -61,3 +62,7 @@ found_from blocks own list at zero (suc left) insides =
 -- in a whole list
 unfoldable pub found_in : List Mark → List Inside → Found
 found_in marks insides = found_from [] 0 marks 0 0 (length marks) insides
+
+-- what stands inside the elements
+abbrev pub all_within : List Inside → Found
+all_within insides = record { attrs = []; uses = flat_map (λ inside. inside.uses) insides; locals = flat_map (λ inside. inside.locals) insides }

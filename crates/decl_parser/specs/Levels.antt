@@ -1,8 +1,9 @@
 -- What stands inside each group, at every depth: this project's own words.
-use Rattle.std.specs.Prelude.{ℕ, suc, ◌+◌, List, [], ◌∷◌, Option, Some, None, Ok}
+use Rattle.std.specs.Prelude.{ℕ, suc, ◌+◌, List, [], ◌∷◌, Option, Some, None, Ok, Bool, true, false, ◌&&◌, not}
 use Rattle.swift_lexer.specs.Trees.{Tree, Forest, leaf, nest, none, cons}
 use Rattle.element_marks.specs.declared.mark.Mark.{Mark}
 use Rattle.element_marks.specs.Levels.{level}
+use Rattle.element_marks.specs.Quiet.{is_quiet, may_list_accessors}
 use Rattle.element_marks.specs.Accessors.{lists_accessors, observes_from}
 use Rattle.decl_parser.specs.declared.inside.Inside.{Inside}
 use Rattle.decl_parser.specs.declared.place.Place.{Place}
@@ -65,3 +66,16 @@ abbrev mutual
   pub forest_size : Forest → ℕ
   forest_size none = 0
   forest_size (cons tree forest) = tree_size tree + forest_size forest
+
+abbrev pub is_leaf : Tree → Bool
+is_leaf (leaf token) = true
+is_leaf (nest left inner right) = false
+
+-- no element is a group
+abbrev pub is_flat : Forest → Bool
+is_flat none = true
+is_flat (cons tree forest) = is_leaf tree && is_flat forest
+
+-- elements that say by their own text what stands there: no group, no use, no attribute and no accessor is among them
+abbrev pub is_simple : List ℕ → Forest → Bool
+is_simple text forest = is_flat forest && is_quiet forest && not (may_list_accessors text forest)

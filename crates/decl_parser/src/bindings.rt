@@ -52,7 +52,7 @@ pub fn bindings(
 ) -> Result<Vec<Bound>, Refusal<ParseFault>>
     ensures { Answers (λ bounds. bounds.items) result (λ outcome. outcome ≡ bindings_from (Some anchor) 0 marks.now insides.now) }
 {
-    let mut bounds = Vec::new(alloc);
+    let mut bounds = Vec::with_capacity(alloc, 1)?;
     let mut before = anchor;
     let mut rest = marks;
     let mut within = insides;
@@ -108,10 +108,11 @@ fn pattern_names(alloc: Global, pattern: &Mark, insides: &[Inside]) -> Result<Ve
     if is_parentheses(pattern) {
         return Vec::from_slice(alloc, first_names(insides));
     }
-    let mut names = Vec::new(alloc);
-    if !is_underscore(pattern.keyword) {
-        names.push(name_of(pattern))?;
+    if is_underscore(pattern.keyword) {
+        return Ok(Vec::new(alloc));
     }
+    let mut names = Vec::with_capacity(alloc, 1)?;
+    names.push(name_of(pattern))?;
     Ok(names)
 }
 

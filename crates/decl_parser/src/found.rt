@@ -1,13 +1,16 @@
 // The macro uses and the attributes of elements, at every depth.
 
-ghost use Rattle.std.specs.Prelude.{◌≡◌, ◌+◌, ◌++◌, ◌-◌, ◌<◌, ◌≤◌, IfOk, OnOk, suc, drop, length, nat_lt, if◌then◌else◌};
+ghost use Rattle.std.specs.List.{list_any};
+ghost use Rattle.std.specs.Prelude.{◌≡◌, ◌||◌, ◌+◌, ◌++◌, ◌-◌, ◌<◌, ◌≤◌, IfOk, OnOk, suc, drop, length, nat_lt, if◌then◌else◌};
 ghost use Rattle.element_marks.specs.Heads.{attribute_length};
-ghost use Rattle.decl_parser.specs.Found.{found_from, found_in, found_step, joined, local_attributes, seen, within};
+ghost use Rattle.element_marks.specs.Sorts.{is_at, is_use};
+ghost use Rattle.decl_parser.specs.Found.{all_within, found_from, found_in, found_step, joined, local_attributes, seen, within};
 
 use crate::attributes::{attr_of, copy_of, use_of};
 use crate::inside::{Inside, first_locals, first_uses};
 use crate::lists::{add, behind, upto};
-use element_marks::{Blocks, Mark, attribute_length, use_length};
+use crate::quiet::{all_locals, all_uses};
+use element_marks::{Blocks, Mark, attribute_length, is_at, is_use, use_length};
 use std::alloc::{AllocError, Global};
 use swift_tree::{Attr, MacroUse};
 
@@ -36,6 +39,36 @@ pub struct Search<'a, 'b> {
 
 /// What is found in the last elements of a list.
 pub fn found(alloc: Global, search: Search) -> Result<Findings, AllocError>
+    requires { search.from ≤ length search.list.now }
+    ensures { IfOk result (λ findings. seen findings ≡ found_from search.entry.blocks.starts.now search.entry.own search.entry.list.now search.entry.from 0 (length search.entry.list.now - search.entry.from) search.entry.insides.now) }
+{
+    let marks = behind(search.list, search.from);
+    if search.insides.len() <= marks.len() && !begins_any(marks) {
+        return all_within(alloc, search.insides);
+    }
+    found_by_steps(alloc, search)
+}
+
+/// Whether a use or an attribute begins with one of the elements.
+fn begins_any(marks: &[Mark]) -> bool
+    ensures { result ≡ list_any (λ mark. is_use mark || is_at mark) marks.now }
+{
+    marks.iter().any(|mark| is_use(mark) || is_at(mark))
+}
+
+/// What stands inside the elements.
+fn all_within(alloc: Global, insides: &[Inside]) -> Result<Findings, AllocError>
+    ensures { IfOk result (λ findings. seen findings ≡ all_within insides.now) }
+{
+    Ok(Findings {
+        attrs: Vec::new(alloc),
+        uses: all_uses(alloc, insides)?,
+        locals: all_locals(alloc, insides)?,
+    })
+}
+
+/// What is found where uses or attributes begin.
+fn found_by_steps(alloc: Global, search: Search) -> Result<Findings, AllocError>
     requires { search.from ≤ length search.list.now }
     ensures { IfOk result (λ findings. seen findings ≡ found_from search.entry.blocks.starts.now search.entry.own search.entry.list.now search.entry.from 0 (length search.entry.list.now - search.entry.from) search.entry.insides.now) }
 {
@@ -129,7 +162,7 @@ fn add_inside(alloc: Global, insides: &[Inside], findings: &mut Findings) -> Res
     add_copies(alloc, &mut findings.locals, first_locals(insides))
 }
 
-fn add_copies(alloc: Global, list: &mut Vec<Attr>, attrs: &[Attr]) -> Result<(), AllocError>
+pub fn add_copies(alloc: Global, list: &mut Vec<Attr>, attrs: &[Attr]) -> Result<(), AllocError>
     ensures { OnOk result (list.new.items ≡ list.old.items ++ attrs.now) }
 {
     'attributes: for attr in attrs {

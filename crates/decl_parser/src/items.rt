@@ -159,7 +159,11 @@ fn members_at(
     ensures { Answers (λ items. map item_of items.items) result (λ outcome. outcome ≡ members_at place (members text.now (forest_of elements.now))) }
 {
     match members_in(elements, place) {
-        Some(inner) => items(alloc, text, inner, Place::Members),
+        Some(inner) => {
+            let mut members = items(alloc, text, inner, Place::Members)?;
+            members.shrink_to_fit();
+            Ok(members)
+        }
         None => Ok(Vec::new(alloc)),
     }
 }

@@ -1,7 +1,9 @@
 // What stands inside each element of a list, at every depth.
 
-ghost use Rattle.std.specs.Prelude.{◌≡◌, IfOk, option_map};
+ghost use Rattle.std.specs.Prelude.{◌≡◌, IfOk, IfSome, length, option_map};
 ghost use Rattle.swift_lexer.specs.Trees.{forest_of, tree_of};
+ghost use Rattle.element_marks.specs.Levels.{level};
+ghost use Rattle.element_marks.specs.Quiet.{is_quiet, may_list_accessors};
 ghost use Rattle.decl_parser.specs.Cut.{without};
 ghost use Rattle.decl_parser.specs.Levels.{inside_of, insides, read_inside, tree_inside};
 
@@ -9,7 +11,8 @@ use crate::bindings::names_inside;
 use crate::found::{Findings, found_in};
 use crate::inside::{Inside, nothing_inside};
 use crate::lists::{add, behind, upto};
-use element_marks::{Mark, lists_accessors, marks_in, observes};
+use crate::quiet::{is_simple, read_quiet, read_simple};
+use element_marks::{Mark, is_quiet, lists_accessors, marks_in, may_list_accessors, observes};
 use std::alloc::{AllocError, Global};
 use swift_base::Listed;
 use swift_lexer::Element;
@@ -28,6 +31,21 @@ pub fn group_inside(element: &Element) -> Option<&[Element]>
     }
 }
 
+/// What stands inside an element, where it is a token.
+#[tactic(auto, unfolding(crate::specs::Levels::inside_of))]
+fn inside_leaf(alloc: Global, text: &[u8], element: &Element) -> Option<Inside>
+    ensures { IfSome result (λ inside. inside ≡ inside_of text.now (tree_of element.now)) }
+{
+    match element {
+        Element::Leaf(_) => Some(nothing_inside(alloc)),
+        Element::Nest {
+            left: _,
+            inner: _,
+            right: _,
+        } => None,
+    }
+}
+
 /// What stands inside an element.
 #[tactic(auto, unfolding(crate::specs::Levels::inside_of, crate::specs::Levels::insides))]
 fn inside_of(alloc: Global, text: &[u8], element: &Element) -> Result<Inside, AllocError>
@@ -40,12 +58,17 @@ fn inside_of(alloc: Global, text: &[u8], element: &Element) -> Result<Inside, Al
             inner,
             right: _,
         } => {
-            let mut list = Vec::new(alloc);
-            'inner: for part in inner.iter() {
-                add(&mut list, inside_of(alloc, text, part)?)?;
+            if is_simple(text, inner) {
+                return read_simple(alloc, text, inner);
             }
-            let marks = marks_in(alloc, text, inner)?;
-            read_inside(alloc, &marks, &list)
+            let mut list = Vec::with_capacity(alloc, inner.len())?;
+            'inner: for part in inner.iter() {
+                match inside_leaf(alloc, text, part) {
+                    Some(inside) => list.push(inside)?,
+                    None => list.push(inside_of(alloc, text, part)?)?,
+                }
+            }
+            read_group(alloc, text, inner, &list)
         }
     }
 }
@@ -55,9 +78,12 @@ fn inside_of(alloc: Global, text: &[u8], element: &Element) -> Result<Inside, Al
 pub fn insides(alloc: Global, text: &[u8], elements: &[Element]) -> Result<Vec<Inside>, AllocError>
     ensures { IfOk result (λ list. list.items ≡ insides text.now (forest_of elements.now)) }
 {
-    let mut list = Vec::new(alloc);
+    let mut list = Vec::with_capacity(alloc, elements.len())?;
     'elements: for element in elements {
-        add(&mut list, inside_of(alloc, text, element)?)?;
+        match inside_leaf(alloc, text, element) {
+            Some(inside) => list.push(inside)?,
+            None => list.push(inside_of(alloc, text, element)?)?,
+        }
     }
     Ok(list)
 }
@@ -81,7 +107,24 @@ pub fn insides_without(
     Ok(list)
 }
 
-/// What stands inside a group, by the elements of its list.
+/// What stands inside a group, by the elements of its list and by what stands inside each.
+fn read_group(
+    alloc: Global,
+    text: &[u8],
+    elements: &[Element],
+    insides: &[Inside],
+) -> Result<Inside, AllocError>
+    requires { length insides.now ≡ length elements.now }
+    ensures { IfOk result (λ inside. inside ≡ read_inside (level text.now (forest_of elements.now)) insides.now) }
+{
+    if is_quiet(elements) && !may_list_accessors(text, elements) {
+        return read_quiet(alloc, text, elements, insides);
+    }
+    let marks = marks_in(alloc, text, elements)?;
+    read_inside(alloc, &marks, insides)
+}
+
+/// What stands inside a group, by the marks of its list.
 #[tactic(auto, unfolding(crate::specs::Levels::read_inside))]
 fn read_inside(alloc: Global, marks: &[Mark], insides: &[Inside]) -> Result<Inside, AllocError>
     ensures { IfOk result (λ inside. inside ≡ read_inside marks.now insides.now) }

@@ -16,6 +16,7 @@ mod lists;
 mod parse;
 mod parts;
 mod place;
+mod quiet;
 
 pub use fault::{ParseFault, ParseKind};
 pub use laws::{

@@ -35,7 +35,7 @@ pub struct Parts {
 fn one<T: Drop>(alloc: Global, value: T) -> Result<Listed<T>, AllocError>
     ensures { IfOk result (λ list. list ≡ value ∷ []) }
 {
-    let mut list = Vec::new(alloc);
+    let mut list = Vec::with_capacity(alloc, 1)?;
     add(&mut list, value)?;
     Ok(Listed::from_vec(list))
 }
@@ -291,7 +291,7 @@ fn variable_parts(alloc: Global, bounds: Vec<Bound>) -> Result<Parts, AllocError
 fn all_names(alloc: Global, bounds: &[Bound]) -> Result<Vec<Span>, AllocError>
     ensures { IfOk result (λ names. names.items ≡ all_names bounds.now) }
 {
-    let mut names = Vec::new(alloc);
+    let mut names = Vec::with_capacity(alloc, bounds.len())?;
     'bounds: for bound in bounds {
         names.extend_from_slice(bound.binding.names.items())?;
     }
@@ -329,10 +329,11 @@ fn last_block(bounds: &[Bound]) -> Option<BlockAt>
 fn only_bindings(alloc: Global, bounds: Vec<Bound>) -> Result<Vec<Binding>, AllocError>
     ensures { IfOk result (λ bindings. bindings.items ≡ map (λ bound. bound.binding) bounds.items) }
 {
-    bounds
-        .into_iter()
-        .map(|bound| only_binding(bound))
-        .collect(alloc)
+    let mut bindings = Vec::with_capacity(alloc, bounds.len())?;
+    'bounds: for bound in bounds {
+        bindings.push(only_binding(bound))?;
+    }
+    Ok(bindings)
 }
 
 fn only_binding(bound: Bound) -> Binding

@@ -2,6 +2,7 @@ pub mod AnglePart
 pub mod Backward
 pub mod Ends
 pub mod Further
+pub mod Quieter
 pub mod Rows
 pub mod Searched
 pub mod Starting

@@ -5,6 +5,7 @@ pub mod Inherits
 pub mod Levels
 pub mod Marks
 pub mod Passes
+pub mod Quiet
 pub mod Runs
 pub mod Sorts
 pub mod Spans

@@ -27,7 +27,7 @@ pub fn marks_in(alloc: Global, text: &[u8], elements: &[Element]) -> Result<Vec<
 fn own_marks(alloc: Global, text: &[u8], elements: &[Element]) -> Result<Vec<Mark>, AllocError>
     ensures { IfOk result (λ marks. marks.items ≡ own_marks text.now (forest_of elements.now)) }
 {
-    let mut marks = Vec::new(alloc);
+    let mut marks = Vec::with_capacity(alloc, elements.len())?;
     'elements: for element in elements {
         marks.push(mark_of(text, element))?;
     }

@@ -57,7 +57,7 @@ fn mark_between(text: &[u8], token: Token, end: u32) -> Mark
     }
 }
 
-fn leaf_sort(class: Class, bytes: &[u8]) -> Sort
+pub fn leaf_sort(class: Class, bytes: &[u8]) -> Sort
     requires { length bytes.now < 2 ^ 32 }
     ensures { result ≡ leaf_sort class bytes.now }
 {

@@ -1,7 +1,7 @@
 // The words with a meaning in the grammar of declarations: one row a word.
 
 ghost use Rattle.std.specs.Prelude.{◌≡◌};
-ghost use Rattle.std.specs.Prelude.{[], find, map, slice_index_or};
+ghost use Rattle.std.specs.Prelude.{[], find, map, slice_index_or, slice_range};
 ghost use Rattle.std.specs.List.{list_any};
 ghost use Rattle.std.specs.Option.{option_copied};
 ghost use Rattle.std.specs.Str.{bytes_eq};
@@ -62,83 +62,108 @@ pub enum Keyword {
 
 /// After the chapters on declarations and statements of The Swift Programming Language, and SE-0426 for accessors.
 /// `class` is a modifier where one of these or a member follows; `actor` and `macro` begin a declaration where a
-/// name follows; `init` begins an accessor too.
+/// name follows; `init` begins an accessor too. The shorter words stand first.
 pub const WORDS: [(&[u8], Keyword); 72] = [
     (b"_", Keyword::Underscore),
-    (b"public", Keyword::Modifier),
-    (b"private", Keyword::Modifier),
-    (b"fileprivate", Keyword::Modifier),
-    (b"internal", Keyword::Modifier),
-    (b"open", Keyword::Modifier),
-    (b"package", Keyword::Modifier),
-    (b"static", Keyword::Modifier),
-    (b"final", Keyword::Modifier),
-    (b"override", Keyword::Modifier),
-    (b"mutating", Keyword::AccessorModifier),
-    (b"nonmutating", Keyword::AccessorModifier),
-    (b"lazy", Keyword::Modifier),
-    (b"weak", Keyword::Modifier),
-    (b"unowned", Keyword::Modifier),
-    (b"dynamic", Keyword::Modifier),
-    (b"optional", Keyword::Modifier),
-    (b"required", Keyword::Modifier),
-    (b"convenience", Keyword::Modifier),
-    (b"indirect", Keyword::Modifier),
-    (b"isolated", Keyword::Modifier),
-    (b"nonisolated", Keyword::Modifier),
-    (b"prefix", Keyword::Modifier),
-    (b"postfix", Keyword::Modifier),
-    (b"infix", Keyword::Modifier),
-    (b"consuming", Keyword::AccessorModifier),
-    (b"borrowing", Keyword::AccessorModifier),
-    (b"distributed", Keyword::Modifier),
-    (b"__consuming", Keyword::AccessorModifier),
-    (b"import", Keyword::Starts(Starter::Import)),
-    (b"typealias", Keyword::Starts(Starter::Typealias)),
-    (b"associatedtype", Keyword::Starts(Starter::Associatedtype)),
-    (b"struct", Keyword::Starts(Starter::Struct)),
-    (b"class", Keyword::Starts(Starter::Class)),
-    (b"enum", Keyword::Starts(Starter::Enum)),
-    (b"protocol", Keyword::Starts(Starter::Protocol)),
-    (b"extension", Keyword::Starts(Starter::Extension)),
-    (b"func", Keyword::Starts(Starter::Func)),
+    (b"as", Keyword::Joining),
+    (b"is", Keyword::Joining),
+    (b"in", Keyword::Joining),
+    (b"if", Keyword::Condition),
     (b"var", Keyword::Starts(Starter::Var)),
     (b"let", Keyword::Starts(Starter::Let)),
+    (b"try", Keyword::Joining),
+    (b"for", Keyword::Condition),
+    (b"get", Keyword::Accessor),
+    (b"set", Keyword::Accessor),
+    (b"open", Keyword::Modifier),
+    (b"lazy", Keyword::Modifier),
+    (b"weak", Keyword::Modifier),
+    (b"enum", Keyword::Starts(Starter::Enum)),
+    (b"func", Keyword::Starts(Starter::Func)),
     (b"init", Keyword::Starts(Starter::Init)),
-    (b"deinit", Keyword::Starts(Starter::Deinit)),
-    (b"subscript", Keyword::Starts(Starter::Subscript)),
     (b"case", Keyword::Starts(Starter::Case)),
+    (b"read", Keyword::Accessor),
+    (b"final", Keyword::Modifier),
+    (b"infix", Keyword::Modifier),
+    (b"class", Keyword::Starts(Starter::Class)),
+    (b"actor", Keyword::Starts(Starter::Actor)),
+    (b"macro", Keyword::Starts(Starter::Macro)),
+    (b"await", Keyword::Joining),
+    (b"where", Keyword::Where),
+    (b"guard", Keyword::Condition),
+    (b"while", Keyword::Condition),
+    (b"catch", Keyword::Condition),
+    (b"_read", Keyword::Accessor),
+    (b"async", Keyword::Async),
+    (b"public", Keyword::Modifier),
+    (b"static", Keyword::Modifier),
+    (b"prefix", Keyword::Modifier),
+    (b"import", Keyword::Starts(Starter::Import)),
+    (b"struct", Keyword::Starts(Starter::Struct)),
+    (b"deinit", Keyword::Starts(Starter::Deinit)),
+    (b"switch", Keyword::Condition),
+    (b"didSet", Keyword::Observer),
+    (b"modify", Keyword::Accessor),
+    (b"throws", Keyword::Throws),
+    (b"private", Keyword::Modifier),
+    (b"package", Keyword::Modifier),
+    (b"unowned", Keyword::Modifier),
+    (b"dynamic", Keyword::Modifier),
+    (b"postfix", Keyword::Modifier),
+    (b"willSet", Keyword::Observer),
+    (b"_modify", Keyword::Accessor),
+    (b"internal", Keyword::Modifier),
+    (b"override", Keyword::Modifier),
+    (b"mutating", Keyword::AccessorModifier),
+    (b"optional", Keyword::Modifier),
+    (b"required", Keyword::Modifier),
+    (b"indirect", Keyword::Modifier),
+    (b"isolated", Keyword::Modifier),
+    (b"protocol", Keyword::Starts(Starter::Protocol)),
     (b"operator", Keyword::Starts(Starter::Operator)),
+    (b"consuming", Keyword::AccessorModifier),
+    (b"borrowing", Keyword::AccessorModifier),
+    (b"typealias", Keyword::Starts(Starter::Typealias)),
+    (b"extension", Keyword::Starts(Starter::Extension)),
+    (b"subscript", Keyword::Starts(Starter::Subscript)),
+    (b"fileprivate", Keyword::Modifier),
+    (b"nonmutating", Keyword::AccessorModifier),
+    (b"convenience", Keyword::Modifier),
+    (b"nonisolated", Keyword::Modifier),
+    (b"distributed", Keyword::Modifier),
+    (b"__consuming", Keyword::AccessorModifier),
+    (b"unsafeAddress", Keyword::Accessor),
+    (b"associatedtype", Keyword::Starts(Starter::Associatedtype)),
     (
         b"precedencegroup",
         Keyword::Starts(Starter::Precedencegroup),
     ),
-    (b"actor", Keyword::Starts(Starter::Actor)),
-    (b"macro", Keyword::Starts(Starter::Macro)),
-    (b"try", Keyword::Joining),
-    (b"await", Keyword::Joining),
-    (b"as", Keyword::Joining),
-    (b"is", Keyword::Joining),
-    (b"in", Keyword::Joining),
-    (b"where", Keyword::Where),
-    (b"if", Keyword::Condition),
-    (b"guard", Keyword::Condition),
-    (b"while", Keyword::Condition),
-    (b"for", Keyword::Condition),
-    (b"switch", Keyword::Condition),
-    (b"catch", Keyword::Condition),
-    (b"get", Keyword::Accessor),
-    (b"set", Keyword::Accessor),
-    (b"willSet", Keyword::Observer),
-    (b"didSet", Keyword::Observer),
-    (b"_read", Keyword::Accessor),
-    (b"_modify", Keyword::Accessor),
-    (b"read", Keyword::Accessor),
-    (b"modify", Keyword::Accessor),
-    (b"unsafeAddress", Keyword::Accessor),
     (b"unsafeMutableAddress", Keyword::Accessor),
-    (b"async", Keyword::Async),
-    (b"throws", Keyword::Throws),
+];
+
+/// From which row and before which the words of the table have a length.
+pub const ROWS: [(usize, usize); 21] = [
+    (0, 0),
+    (0, 1),
+    (1, 5),
+    (5, 11),
+    (11, 19),
+    (19, 31),
+    (31, 41),
+    (41, 48),
+    (48, 57),
+    (57, 62),
+    (62, 62),
+    (62, 68),
+    (68, 68),
+    (68, 69),
+    (69, 70),
+    (70, 71),
+    (71, 71),
+    (71, 71),
+    (71, 71),
+    (71, 71),
+    (71, 72),
 ];
 
 /// With which bytes the words of the table begin, by their length.
@@ -177,7 +202,27 @@ pub fn keyword_of(word: &[u8]) -> Keyword
     if !looks_like_keyword(word) {
         return Keyword::Plain;
     }
-    keyword_in(&WORDS, word)
+    let (from, to) = rows_of(word.len());
+    keyword_in(rows_between(&WORDS, from, to), word)
+}
+
+/// From which row and before which the words of the table have that length.
+fn rows_of(length: usize) -> (usize, usize)
+    ensures { result ≡ slice_index_or ROWS length (0, 0) }
+{
+    ROWS.get(length).copied().unwrap_or((0, 0))
+}
+
+fn rows_between<'a>(
+    rows: &'a [(&'a [u8], Keyword)],
+    from: usize,
+    to: usize,
+) -> &'a [(&'a [u8], Keyword)]
+    ensures { result.now ≡ slice_range rows.now from to }
+{
+    let to = rows.len().min(to);
+    let from = to.min(from);
+    &rows[from..to]
 }
 
 /// Whether a word of the table is as long as this one and begins with the same byte.

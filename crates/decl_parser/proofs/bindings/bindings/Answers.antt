@@ -13,7 +13,7 @@ some_left (suc n) empty = omega arith
 
 pub returns-in_err-bound : goal.returns-in_err-bound
 returns-in_err-bound c =
-    let p = err_from_is_err_and c.from_residual.result c.from_residual.ensures.1 in
+    let p = err_from_is_err_and c.from_residual-in_err-bound.result c.from_residual-in_err-bound.ensures.1 in
     rw (p.1, p.2) (refused_on c.in_err-bound.field-0.0 (binding_of c.upto.result.now c.bindings.within.now) (bindings_from (Some c.args.anchor) 0 c.args.marks.now c.args.insides.now)
     (λ fault read.
     bad_binding c.bindings.bounds.items c.bindings.before (1 + c.binding_length-count.result) c.bindings.rest.now c.bindings.within.now fault

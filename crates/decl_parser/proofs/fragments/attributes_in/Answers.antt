@@ -1,4 +1,4 @@
-use Rattle.std.proofs.Common.{◌≡◌, ◌∙◌, ap, sym, arith, drop, ◌+◌}
+use Rattle.std.proofs.Common.{◌≡◌, ◌∙◌, ap, arith, drop, ◌+◌}
 use Rattle.element_marks.specs.Heads.{attribute_length}
 use Rattle.decl_parser.specs.Attributes.{attr_of}
 use Rattle.decl_parser.specs.Parts.{prefixed}

@@ -1,11 +1,8 @@
-use Rattle.std.proofs.Common.{◌≡◌, ◌+◌, ◌-◌, ◌≤◌, ◌∙◌, ap, sym, arith, min, length, drop, map, List}
-use Rattle.swift_base.specs.declared.place.Span.{Span}
-use Rattle.swift_tree.specs.declared.item.Attr.{Attr}
-use Rattle.swift_tree.specs.declared.item.MacroUse.{MacroUse}
-use Rattle.swift_tree.specs.Outlines.{item, item_of, BlockSeen}
+use Rattle.std.proofs.Common.{◌≡◌, ◌+◌, ◌-◌, ◌∙◌, ap, length, drop, map}
+use Rattle.swift_tree.specs.Outlines.{item, item_of}
 use Rattle.swift_tree.proofs.Folds.{item_of-roll}
 use Rattle.decl_parser.specs.Attributes.{span_from}
-use Rattle.decl_parser.specs.Found.{Found, found_from, seen}
+use Rattle.decl_parser.specs.Found.{found_from, seen}
 use Rattle.decl_parser.specs.Cut.{after, block_of, braces_seen, head_of, whole_item}
 use Rattle.decl_parser.proofs.items.assembled.Goals as goal
 

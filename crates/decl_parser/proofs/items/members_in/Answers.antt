@@ -1,4 +1,4 @@
-use Rattle.std.proofs.Common.{◌≡◌, ◌∙◌, ◌<◌, ap, sym, arith, Some, option_map, length, get_or}
+use Rattle.std.proofs.Common.{◌≡◌, ◌∙◌, ap, sym, arith, Some, option_map}
 use Rattle.swift_lexer.specs.Trees.{tree_of, forest_of}
 use Rattle.decl_parser.specs.Cut.{members_at}
 use Rattle.decl_parser.specs.Levels.{members, members_by, members_of, tree_inside, tree_size}

@@ -4,6 +4,7 @@ use Rattle.swift_lexer.specs.Trees.{tree_of, forest_of}
 use Rattle.swift_lexer.proofs.Trees.{tree_of-leaf, tree_of-nest}
 use Rattle.element_marks.specs.Levels.{level}
 use Rattle.decl_parser.specs.Levels.{inside_of, read_inside, insides}
+use Rattle.decl_parser.proofs.QuietGroups.{length_insides}
 use Rattle.decl_parser.proofs.levels.+inside_of.Goals as goal
 
 pub returns-in-Leaf : goal.returns-in-Leaf
@@ -11,15 +12,36 @@ unfolding inside_of
 returns-in-Leaf n c =
     c.nothing_inside.ensures ∙ sym (ap (λ e. inside_of c.args.text.now (tree_of e)) c.in-Leaf.is ∙ ap (inside_of c.args.text.now) (tree_of-leaf c.in-Leaf.field-0))
 
-pub returns-in_ok-marks-in-Nest : goal.returns-in_ok-marks-in-Nest
-unfolding inside_of insides
-returns-in_ok-marks-in-Nest n c =
+pub read_group-requires : goal.read_group-requires
+unfolding insides
+read_group-requires n c =
     let text = c.args.text.now in
     let inner = c.in-Nest.inner.items in
-    let marks : c.deref-in-Nest.result.now ≡ level text (forest_of inner) = c.deref-in-Nest.ensures.value ∙ c.in_ok-marks-in-Nest.ensures ∙ ap (λ es. level text (forest_of es)) c.deref.ensures.value in
+    ap length (c.deref-in-Nest-2.ensures.value
+    ∙ sym (append-nil c.inner.list.items)
+    ∙ sym (ap (λ es. c.inner.list.items ++ insides text (forest_of es)) (drop_all c.inner.part-index inner (omega (arith, c.inner-test.false, ap length c.deref-part-items.ensures.value))))
+    ∙ c.inner.invariant)
+    ∙ length_insides text inner
+    ∙ sym (ap length c.deref-in-Nest.ensures.value)
+
+pub returns-after-inner : goal.returns-after-inner
+unfolding inside_of insides
+returns-after-inner n c =
+    let text = c.args.text.now in
+    let inner = c.in-Nest.inner.items in
     let list : c.deref-in-Nest-2.result.now ≡ insides text (forest_of inner) =
     c.deref-in-Nest-2.ensures.value ∙ sym (append-nil c.inner.list.items) ∙ sym (ap (λ es. c.inner.list.items ++ insides text (forest_of es)) (drop_all c.inner.part-index inner (omega (arith, c.inner-test.false, ap length c.deref-part-items.ensures.value)))) ∙ c.inner.invariant in
-    let whole : read_inside c.deref-in-Nest.result.now c.deref-in-Nest-2.result.now ≡ inside_of text (tree_of c.args.element.now) =
-    ap (λ m. read_inside m c.deref-in-Nest-2.result.now) marks ∙ ap (read_inside (level text (forest_of inner))) list
+    let whole : read_inside (level text (forest_of c.deref-in-Nest.result.now)) c.deref-in-Nest-2.result.now ≡ inside_of text (tree_of c.args.element.now) =
+    ap (λ es. read_inside (level text (forest_of es)) c.deref-in-Nest-2.result.now) c.deref-in-Nest.ensures.value ∙ ap (read_inside (level text (forest_of inner))) list
     ∙ sym (ap (λ e. inside_of text (tree_of e)) c.in-Nest.is ∙ ap (inside_of text) (tree_of-nest c.in-Nest.left c.in-Nest.inner c.in-Nest.right)) in
-    subst (λ x. IfOk c.read_inside.result (λ inside. inside ≡ x)) whole c.read_inside.ensures
+    subst (λ x. IfOk c.read_group.result (λ inside. inside ≡ x)) whole c.read_group.ensures
+
+pub returns-then-is_simple : goal.returns-then-is_simple
+unfolding inside_of insides
+returns-then-is_simple n c =
+    let text = c.args.text.now in
+    let inner = c.in-Nest.inner.items in
+    let whole : read_inside (level text (forest_of c.deref-then-is_simple.result.now)) (insides text (forest_of c.deref-then-is_simple.result.now)) ≡ inside_of text (tree_of c.args.element.now) =
+    ap (λ es. read_inside (level text (forest_of es)) (insides text (forest_of es))) c.deref-then-is_simple.ensures.value
+    ∙ sym (ap (λ e. inside_of text (tree_of e)) c.in-Nest.is ∙ ap (inside_of text) (tree_of-nest c.in-Nest.left c.in-Nest.inner c.in-Nest.right)) in
+    subst (λ x. IfOk c.read_simple.result (λ inside. inside ≡ x)) whole c.read_simple.ensures

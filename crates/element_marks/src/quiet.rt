@@ -1,0 +1,73 @@
+// Lists of elements in which no macro use and no attribute begins, by the tokens that the elements begin with.
+
+ghost use Rattle.std.specs.Prelude.{◌≡◌};
+ghost use Rattle.swift_lexer.specs.Trees.{forest_of, tree_of};
+ghost use Rattle.element_marks.specs.Marks.{mark_of};
+ghost use Rattle.element_marks.specs.Quiet.{front, is_quiet, is_quiet_class, leads_accessor, may_list_accessors};
+
+use crate::mark::Sort;
+use crate::marks::{leaf_sort, mark_of, part};
+use crate::words::{
+    Keyword, is_accessor, is_accessor_modifier, is_class, is_modifier, is_observer,
+};
+use swift_lexer::{Class, Element, Token};
+
+/// The token that the element begins with.
+fn front(element: &Element) -> Token
+    ensures { result ≡ front (tree_of element.now) }
+{
+    match element {
+        Element::Leaf(token) => *token,
+        Element::Nest {
+            left,
+            inner: _,
+            right: _,
+        } => *left,
+    }
+}
+
+fn is_quiet_class(class: Class) -> bool
+    ensures { result ≡ is_quiet_class class }
+{
+    !matches!(class, Class::Pound | Class::At)
+}
+
+/// Whether no element begins with a `#` word or an `@`.
+pub fn is_quiet(elements: &[Element]) -> bool
+    ensures { result ≡ is_quiet (forest_of elements.now) }
+{
+    'elements: for element in elements {
+        if !is_quiet_class(front(element).class) {
+            return false;
+        }
+    }
+    true
+}
+
+fn leads_accessor(keyword: Keyword) -> bool
+    ensures { result ≡ leads_accessor keyword }
+{
+    is_modifier(keyword)
+        || is_class(keyword)
+        || is_accessor_modifier(keyword)
+        || is_accessor(keyword)
+        || is_observer(keyword)
+}
+
+/// Whether the first element may stand at an accessor's beginning, attributes aside.
+pub fn may_list_accessors(text: &[u8], elements: &[Element]) -> bool
+    ensures { result ≡ may_list_accessors text.now (forest_of elements.now) }
+{
+    match elements.first() {
+        Some(element) => leads_accessor(mark_of(text, element).keyword),
+        None => false,
+    }
+}
+
+/// What the element is by its own text.
+pub fn sort_of(text: &[u8], element: &Element) -> Sort
+    ensures { result ≡ (mark_of text.now (tree_of element.now)).sort }
+{
+    let token = front(element);
+    leaf_sort(token.class, part(text, token.start, token.end))
+}
