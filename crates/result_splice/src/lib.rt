@@ -4,5 +4,8 @@
 #![tactic(auto)]
 
 mod edit;
+mod slices;
+#[cfg(test)]
+mod tests;
 
 pub use edit::{Edit, apply};
