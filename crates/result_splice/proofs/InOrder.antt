@@ -62,7 +62,7 @@ begin_behind size edit edits each apart rises k d within =
     record {
       begins = ends_before edit (get_or edits k d) (apart 0 (suc k) d (omega arith) (omega (arith, within)) (λ same. omega (arith, same))) (rises 0 (suc k) d (omega arith) (omega (arith, within))) lies.some;
       some = lies.some;
-      ends = lies.ends
+      ends = lies.ends;
     }
 
 lie_in_order : (from size : ℕ) (edits : List Edit) → from ≤ size → All (LiesBetween from size) edits → All (LiesBetween 0 size) edits → AnyTwoApart edits → IsNonDecreasingBy (λ e. e.start) edits → EditsLie from edits size

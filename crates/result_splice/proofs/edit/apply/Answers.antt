@@ -14,5 +14,5 @@ returns c =
       in_order = sorted;
       same = moved;
       lie = sorted_edits_lie (length c.args.text.now) c.args.edits.items sorted c.requires moved rises;
-      made = made ∙ ap (edited c.args.text.now 0) c.deref.ensures.value
+      made = made ∙ ap (edited c.args.text.now 0) c.deref.ensures.value;
     }) c.edited.ensures
