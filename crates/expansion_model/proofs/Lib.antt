@@ -7,3 +7,4 @@ pub mod Heads
 pub mod UsesReadable
 pub mod Accepted
 pub mod LastParts
+pub mod SitesReadable
