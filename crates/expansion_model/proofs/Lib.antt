@@ -8,3 +8,4 @@ pub mod UsesReadable
 pub mod Accepted
 pub mod LastParts
 pub mod SitesReadable
+pub mod SitesApart
