@@ -7,3 +7,5 @@ pub mod Heads
 pub mod UsesReadable
 pub mod Accepted
 pub mod LastParts
+pub mod SitesReadable
+pub mod SitesApart

@@ -20,3 +20,6 @@ pub use place::{FIRST_PLACE, Place, place_from};
 pub use request::{key_of, request_of};
 pub use site::{Ask, Site, SiteFault, SiteKind};
 pub use visits::sites;
+
+#[cfg(test)]
+mod tests;

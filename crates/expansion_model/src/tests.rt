@@ -1,0 +1,166 @@
+// Worked examples: the fault of each site, what is text alone, and orders of visits.
+
+use super::*;
+use decl_parser::parse_file;
+use macro_decls::MacroTable;
+use std::alloc::Global;
+use std::fmt::Write;
+use std::process::Abort;
+use std::test::Fail;
+use swift_base::{Plugin, Plugins, Text};
+
+/// The macros of the examples. Module `N` has no plug-in.
+const MACROS: &str = "\
+@freestanding(expression) macro outer(_ x: Int) -> Int = #externalMacro(module: \"M\", type: \"Outer\")
+@freestanding(expression) macro inner(_ x: Int) -> Int = #externalMacro(module: \"M\", type: \"Inner\")
+@freestanding(declaration) macro made() = #externalMacro(module: \"M\", type: \"Made\")
+@freestanding(expression) macro absent() -> Int = #externalMacro(module: \"N\", type: \"Absent\")
+@attached(peer) macro Peered() = #externalMacro(module: \"M\", type: \"Peered\")
+@attached(peer) macro Lost() = #externalMacro(module: \"N\", type: \"Lost\")
+@attached(accessor) macro Stored() = #externalMacro(module: \"M\", type: \"Stored\")
+@attached(memberAttribute) macro Given() = #externalMacro(module: \"M\", type: \"Given\")
+@attached(member) macro Membered() = #externalMacro(module: \"M\", type: \"Membered\")
+@attached(extension) macro Extended() = #externalMacro(module: \"M\", type: \"Extended\")
+@attached(peer) @attached(accessor) macro Both() = #externalMacro(module: \"M\", type: \"Both\")
+@attached(extension) @attached(peer) @attached(member) @attached(memberAttribute) macro Many() = #externalMacro(module: \"M\", type: \"Many\")
+";
+
+fn macros(alloc: Global) -> Result<MacroTable, Fail> {
+    let outline = parse_file(alloc, MACROS.as_bytes())?;
+    Ok(MacroTable::from_outlines(alloc, &[&outline])?)
+}
+
+fn plugins(alloc: Global) -> Result<Plugins, Fail> {
+    let mut list = Vec::new(alloc);
+    list.push(Plugin {
+        module: Text::from_bytes(alloc, b"M")?,
+        command: Text::from_bytes(alloc, b"plug")?,
+    })?;
+    Ok(Plugins::new(list))
+}
+
+fn str_of(text: &Text) -> &str {
+    str::from_utf8(text.bytes()).unwrap_or("?")
+}
+
+fn put_site(alloc: Global, line: &mut String, site: &Site) -> Result<(), Fail> {
+    match site {
+        Site::Asks(ask) => {
+            let target = &ask.target;
+            let (module, type_name) = (str_of(&target.module), str_of(&target.type_name));
+            write!(line, " {} asks {}={module}.{type_name}", ask.macro_use.span.start, str_of(&target.name))?
+        }
+        Site::Fault(fault) => write!(line, " {} {:?} {}", fault.at, fault.kind, str_of(&fault.name))?,
+        Site::NotBuilt(at) => write!(line, " {at} request")?,
+        Site::Attribute(span) => write!(line, " {}-{}", span.start, span.end)?,
+    }
+    Ok(line.push_str(";")?)
+}
+
+/// The sites of a text, one behind the other.
+fn sites_in(alloc: Global, text: &str) -> Result<String, Fail> {
+    let source = parse_file(alloc, text.as_bytes())?;
+    let mut line = String::new(alloc);
+    for site in &sites(alloc, &source, &macros(alloc)?, &plugins(alloc)?)? {
+        put_site(alloc, &mut line, site)?;
+    }
+    Ok(line)
+}
+
+/// Each fault at a use, at an attribute, and at a local one.
+const FAULTS: [(&str, &str); 18] = [
+    ("let v = #nothing(1)", " 8 UnknownMacro nothing;"),
+    ("#nothing()", " 0 UnknownMacro nothing;"),
+    ("let v = #Peered(1)", " 8 WrongRole Peered;"),
+    ("let v = #made()", " 8 WrongRole made;"),
+    ("#outer(1)", " 0 WrongRole outer;"),
+    ("let v = #absent(1)", " 8 NoPlugin N;"),
+    ("@Stored func f() {}", " 0 WrongRole Stored;"),
+    ("@Stored let a = 1", " 0 WrongRole Stored;"),
+    ("@outer(1) func f() {}", " 0 WrongRole outer;"),
+    ("@Given enum E {}; @Given func f() {}", " 0-6; 18 WrongRole Given;"),
+    ("@Peered import A", " 0 WrongRole Peered;"),
+    ("@Stored var a = 1, b = 2", " 0 NotOneBinding Stored;"),
+    ("@Stored var (a, b) = (1, 2)", " 0 NotOneBinding Stored;"),
+    ("@Stored var a: Int { 1 }", " 0 AccessorOnBody Stored;"),
+    ("@Both var a: Int { 1 }", " 0 AccessorOnBody Both; 0 request;"),
+    ("@Lost func f() {}", " 0 NoPlugin N;"),
+    ("func f() { @Peered var x = 1 }", " 11 LocalAttached Peered;"),
+    ("func f() { @Lost(#inner(1)) var x = 1 }", " 11 LocalAttached Lost; 17 asks inner=M.Inner;"),
+];
+
+#[test]
+fn each_site_fault(rt: HostRuntime) -> Result<(), Fail> {
+    for (text, want) in &FAULTS {
+        assert_eq!(rt; sites_in(rt.alloc(), text)?.as_str(), *want, "of {text:?}");
+    }
+    Ok(())
+}
+
+/// Uses in arguments, and names that no macro has.
+const TEXTS: [(&str, &str); 8] = [
+    ("let v = #outer(#inner(1))", " 8 asks outer=M.Outer;"),
+    ("@Peered(#inner(1)) func f() {}", " 0-18; 0 request;"),
+    ("@other(#inner(1)) func f() {}", " 7 asks inner=M.Inner;"),
+    ("@other func f() {}", ""),
+    ("@M.Peered func f() {}", ""),
+    ("@M.Peered(#inner(1)) func f() {}", " 10 asks inner=M.Inner;"),
+    ("func f() { @M.Peered var x = 1 }", ""),
+    ("func f() { @other(#inner(1)) var x = 1 }", " 18 asks inner=M.Inner;"),
+];
+
+#[test]
+fn use_in_arguments_is_text(rt: HostRuntime) -> Result<(), Fail> {
+    for (text, want) in &TEXTS {
+        assert_eq!(rt; sites_in(rt.alloc(), text)?.as_str(), *want, "of {text:?}");
+    }
+    Ok(())
+}
+
+const VISITS: [(&str, &str); 10] = [
+    ("#made()", " 0 request;"),
+    (
+        "@Peered @other(#outer(1)) var x = #inner(1)",
+        " 0-7; 15 asks outer=M.Outer; 34 asks inner=M.Inner; 0 request;",
+    ),
+    (
+        "@Both @Peered var x = #inner(1)",
+        " 0-5; 6-13; 0 request; 22 asks inner=M.Inner; 0 request; 6 request;",
+    ),
+    (
+        "@Stored var x: Int { get { #inner(1) } }",
+        " 0-7; 0 request; 27 asks inner=M.Inner;",
+    ),
+    (
+        "func f() { #outer(1); @Peered var x = #inner(1); #outer(2) }",
+        " 11 asks outer=M.Outer; 22 LocalAttached Peered; 38 asks inner=M.Inner; 49 asks outer=M.Outer;",
+    ),
+    (
+        "@Many struct S { #made() \n var a = #inner(1); func f() { var b = 1 } }",
+        " 0-5; 0 request; 0 request; 17 request; 35 asks inner=M.Inner; 0 request; 0 request; 0 request;",
+    ),
+    (
+        "@Extended @Peered @Membered @Given struct S { var a = #inner(1) }",
+        " 0-9; 10-17; 18-27; 28-34; 28 request; 54 asks inner=M.Inner; 18 request; 10 request; 0 request;",
+    ),
+    (
+        "@Given extension E { struct T { var a = 1 } \n @Given protocol P { @Peered func f() } }",
+        " 0-6; 0 request; 0 request; 46-52; 46 request; 66-73; 66 request;",
+    ),
+    (
+        "@Given @Peered actor A { let a = #inner(1) }; let b = #outer(1)",
+        " 0-6; 7-14; 0 request; 33 asks inner=M.Inner; 7 request; 54 asks outer=M.Outer;",
+    ),
+    (
+        "struct S { var a: Int { #inner(1) }; struct T { var b = #outer(1) } }",
+        " 24 asks inner=M.Inner; 56 asks outer=M.Outer;",
+    ),
+];
+
+#[test]
+fn sites_in_visit_order(rt: HostRuntime) -> Result<(), Fail> {
+    for (text, want) in &VISITS {
+        assert_eq!(rt; sites_in(rt.alloc(), text)?.as_str(), *want, "of {text:?}");
+    }
+    Ok(())
+}
