@@ -1,63 +1,121 @@
 -- The promises of a run, from what one run does.
-use Rattle.std.proofs.Common.{◌≡◌, ◌⊎◌, inl, inr, ℕ, ◌<◌, ◌++◌, Option, Some, None, List, [], ◌∷◌, take, drop, codes, refl, sym, ap, ◌∙◌, append_assoc, arith}
+use Rattle.std.proofs.Common.{◌≡◌, ◌⊎◌, inl, inr, ℕ, suc, ◌<◌, Bool, true, false, Option, Some, None, Result, Ok, Err, List, [], ◌∷◌, ◌++◌, map, refl, sym, ap, ◌∙◌, subst, arith}
+use Rattle.std.specs.List.{list_any}
 use Rattle.swift_base.specs.Told.{then_bytes, Rose}
 use Rattle.swift_base.specs.Outside.{SinkSeen, FilesSeen}
+use Rattle.swift_base.specs.declared.place.Span.{Span}
 use Rattle.swift_base.specs.declared.plugins.Plugin.{Plugin}
-use Rattle.expand_top.specs.Answer.{Output, site_output, outcome_output, spliced_output, reply_output, splice_of}
-use Rattle.expand_top.specs.Promises.{site_in, KeepsOutside, KeepsBytes, StatusHasCause}
-use Rattle.expand_top.specs.Run.{Asking, IsExpansionOf, IsExpansion, ReadsSource, IsDelivered, whole, out_failed, err_failed, usage}
-use Rattle.expand_top.specs.Site.{site_of}
-use Rattle.expand_top.specs.Reading.{reading_of}
-use Rattle.expand_top.specs.declared.reading.Reading.{Reading}
-use Rattle.expand_top.specs.declared.reading.Reading.TheVariants as reading
-use Rattle.swift_tree.specs.declared.item.MacroUse.{MacroUse}
-use Rattle.expand_top.specs.declared.declarations.Declaration.{Declaration}
+use Rattle.swift_tree.specs.declared.outline.Shape.TheVariants.{File}
+use Rattle.swift_tree.specs.Outlines.{OutlineSeen}
+use Rattle.decl_parser.specs.Outline.{OutlineOutcome, outline}
+use Rattle.macro_decls.specs.Macros.{macros}
+use Rattle.macro_decls.specs.declared.fault.MacroFault.{MacroFault}
+use Rattle.macro_decls.specs.declared.table.MacroDecl.{MacroDecl}
+use Rattle.expansion_model.specs.Sites.{sites_of}
+use Rattle.expansion_model.specs.Spans.{spans_of}
+use Rattle.expansion_model.specs.declared.site.Site.{Site}
 use Rattle.plugin_messages.specs.declared.message.Outcome.{Outcome}
-use Rattle.plugin_messages.specs.declared.message.Outcome.TheVariants as outcome
-use Rattle.plugin_messages.specs.declared.message.Diagnostic.{Diagnostic}
-use Rattle.expand_top.specs.declared.splice.Splice.{Splice}
-use Rattle.expand_top.specs.declared.splice.Splice.TheVariants as splice
-use Rattle.expand_top.specs.declared.site.Site.{Site}
-use Rattle.expand_top.specs.declared.site.Site.TheVariants as site
+use Rattle.link_driver.specs.Driven.{Each}
+use Rattle.link_driver.specs.Laws.{IsServedOf, OnlyLastKeysFail}
+use Rattle.link_driver.specs.Links.{KeySteps, LinkSeen}
+use Rattle.link_driver.specs.Requests.{Wanted}
+use Rattle.result_splice.specs.Edits.{IsEdited}
+use Rattle.result_splice.specs.declared.edit.Edit.{Edit}
+use Rattle.expand_top.specs.Answer.{ IsByLines, IsByMissing, is_line, is_missing, edits_in, reports_of}
+use Rattle.expand_top.specs.Asking.{Asking, IsExpansion, IsOutputOf, IsSiteOutput, are_too_many}
+use Rattle.expand_top.specs.Lines.{Output}
+use Rattle.expand_top.specs.Meaning.{Meaning, Refused, Means, NamedText, by_table, table_meaning, by_outline, source_meaning, by_macros, text_meaning, by_source, by_file, meaning_of}
+use Rattle.expand_top.specs.Promises.{KeepsOutside, KeepsBytes, LinksServe, RepliesInOrder, StatusHasCause, replaced, wanted_of_run}
+use Rattle.expand_top.specs.Run.{ReadsSource, ReadsNext, ReadsInputs, IsDelivered, whole, out_failed, err_failed, usage}
+use Rattle.expand_top.specs.Table.{outcome_of}
+use Rattle.expand_top.specs.declared.answer.Report.{Report}
+use Rattle.expand_top.specs.declared.ended.Inputs.{Inputs}
 use Rattle.expand_top.specs.declared.ended.SourceRead.{SourceRead}
 use Rattle.expand_top.specs.declared.ended.SourceRead.TheVariants as read
+use Rattle.expand_top.proofs.Reports.{reports_replace}
 
-zero_one : {A : Type 0} (n : ℕ) → n ≡ 1 → n ≡ 0 → A
-zero_one n one zero = absurd (omega arith)
+-- a text that was read is refused with status 1
+abbrev IsLow : Meaning → Type 0
+IsLow (Refused output) = output.status ≡ 1
+IsLow (Means source declared) = Unit {0}
 
-rejoined : (before splice behind : List ℕ) → before ++ (codes "(" ++ (splice ++ (codes ")" ++ behind))) ≡ before ++ ((codes "(" ++ (splice ++ codes ")")) ++ behind)
-rejoined before splice behind = ap (λ (l : List ℕ). before ++ (40 ∷ l)) (sym (append_assoc splice (codes ")") behind))
+low_declared : (files : List NamedText) (source : OutlineSeen) (found : Result (List MacroDecl) (List MacroFault)) → IsLow (by_table files source found)
+low_declared files source (Ok declared) = tt
+low_declared files source (Err faults) = refl
 
-spliced_kept : (name text : List ℕ) (macro_use : MacroUse) (declaration : Declaration) (reply : List ℕ) (put : Splice) (output : Output)
-    → output ≡ spliced_output name text macro_use reply put → output.status ≡ 0 → KeepsOutside text (site.Asks macro_use declaration) output.out
-spliced_kept name text macro_use declaration reply splice.NotYet output is zero = zero_one output.status (ap (λ (w : Output). w.status) is) zero
-spliced_kept name text macro_use declaration reply (splice.Refused fault) output is zero = zero_one output.status (ap (λ (w : Output). w.status) is) zero
-spliced_kept name text macro_use declaration reply (splice.Bytes bytes) output is zero =
-    (codes "(" ++ (bytes ++ codes ")"), ap (λ (w : Output). w.out) is ∙ rejoined (take macro_use.span.start text) bytes (drop macro_use.span.end text))
+low_table : (files : List NamedText) (before : List OutlineSeen) (source : OutlineSeen) → IsLow (table_meaning files before source)
+unfolding table_meaning
+low_table files before source = low_declared files source (macros (before ++ source ∷ []))
 
-reply_kept : (name text : List ℕ) (declarations : List Declaration) (macro_use : MacroUse) (declaration : Declaration) (reply : Option (List ℕ)) (diagnostics : List Diagnostic)
-    (output : Output) → output ≡ reply_output name text declarations macro_use reply diagnostics → output.status ≡ 0
-    → KeepsOutside text (site.Asks macro_use declaration) output.out
-reply_kept name text declarations macro_use declaration None diagnostics output is zero = zero_one output.status (ap (λ (w : Output). w.status) is) zero
-reply_kept name text declarations macro_use declaration (Some reply) [] output is zero =
-    spliced_kept name text macro_use declaration reply (splice_of text declarations reply) output is zero
-reply_kept name text declarations macro_use declaration (Some reply) (diagnostic ∷ diagnostics) output is zero =
-    zero_one output.status (ap (λ (w : Output). w.status) is) zero
+low_outline : (files : List NamedText) (before : List OutlineSeen) (source : NamedText) (found : OutlineOutcome) → IsLow (by_outline files before source found)
+low_outline files before source (Ok seen) = low_table (files ++ source ∷ []) before seen
+low_outline files before source (Err fault) = refl
 
-outcome_kept : (name text : List ℕ) (declarations : List Declaration) (macro_use : MacroUse) (declaration : Declaration) (o : Option Outcome) (output : Output)
-    → output ≡ outcome_output name text declarations macro_use declaration o → output.status ≡ 0 → KeepsOutside text (site.Asks macro_use declaration) output.out
-outcome_kept name text declarations macro_use declaration None output is zero = zero_one output.status (ap (λ (w : Output). w.status) is) zero
-outcome_kept name text declarations macro_use declaration (Some (outcome.Failed cause)) output is zero = zero_one output.status (ap (λ (w : Output). w.status) is) zero
-outcome_kept name text declarations macro_use declaration (Some (outcome.Reply reply diagnostics)) output is zero =
-    reply_kept name text declarations macro_use declaration reply diagnostics output is zero
+low_source : (files : List NamedText) (before : List OutlineSeen) (source : NamedText) → IsLow (source_meaning files before source)
+unfolding source_meaning
+low_source files before source = low_outline files before source (outline source.text File)
 
--- what is printed at a site where the status is 0
-site_kept : (name text : List ℕ) (declarations : List Declaration) (place : Site) (o : Option Outcome) (output : Output)
-    → output ≡ site_output name text declarations place o → output.status ≡ 0 → KeepsOutside text place output.out
-site_kept name text declarations site.Nothing o output is zero = ap (λ (w : Output). w.out) is
-site_kept name text declarations (site.Unknown macro_use) o output is zero = zero_one output.status (ap (λ (w : Output). w.status) is) zero
-site_kept name text declarations (site.NoPlugin macro_use declaration) o output is zero = zero_one output.status (ap (λ (w : Output). w.status) is) zero
-site_kept name text declarations (site.Asks macro_use declaration) o output is zero = outcome_kept name text declarations macro_use declaration o output is zero
+low_macros : (file source : NamedText) (found : OutlineOutcome) → IsLow (by_macros file source found)
+low_macros file source (Ok seen) = low_source (file ∷ []) (seen ∷ []) source
+low_macros file source (Err fault) = refl
+
+low_text : (file : Option NamedText) (source : NamedText) → IsLow (text_meaning file source)
+low_text None source = low_source [] [] source
+low_text (Some file) source = low_macros file source (outline file.text File)
+
+-- what the files mean, by whether a read failed
+abbrev IsKnown : FilesSeen → FilesSeen → Meaning → Type 0
+IsKnown files after (Refused output) = ((output.status ≡ 1) × (after.faults ≡ files.faults)) ⊎ ((output.status ≡ 3) × Rose files.faults after.faults)
+IsKnown files after (Means source declared) = after.faults ≡ files.faults
+
+known_low : (files after : FilesSeen) (means : Meaning) → IsLow means → after.faults ≡ files.faults → IsKnown files after means
+known_low files after (Refused output) low same = inl (low, same)
+known_low files after (Means source declared) low same = same
+
+source_known : (files after : FilesSeen) (name : List ℕ) (file : Option NamedText) (source : SourceRead) → ReadsSource files after name source → IsKnown files after (by_source name file source)
+source_known files after name file read.Nothing reads = absurd reads
+source_known files after name file read.Failed reads = inr (refl, reads.0)
+source_known files after name file read.Larger reads = inl (refl, reads.0)
+source_known files after name file (read.Bytes text) reads = known_low files after (text_meaning file (record { name = name; text = text })) (low_text file (record { name = name; text = text })) reads.0
+
+known_from : (files between after : FilesSeen) (means : Meaning) → between.faults ≡ files.faults → IsKnown between after means → IsKnown files after means
+known_from files between after (Refused output) same (inl low) = inl (low.0, low.1 ∙ same)
+known_from files between after (Refused output) same (inr unread) = inr (unread.0, subst (λ (n : ℕ). Rose n after.faults) same unread.1)
+known_from files between after (Means source declared) same known = known ∙ same
+
+file_known : (files between after : FilesSeen) (file name : List ℕ) (macros_read source : SourceRead) → ReadsSource files between file macros_read → ReadsNext macros_read between after name source
+    → IsKnown files after (by_file file name macros_read source)
+file_known files between after file name read.Nothing source reads next = absurd reads
+file_known files between after file name read.Failed source reads next =
+    inr (refl, subst (λ (seen : FilesSeen). Rose files.faults seen.faults) (sym next.0) reads.0)
+file_known files between after file name read.Larger source reads next = inl (refl, ap (λ (seen : FilesSeen). seen.faults) next.0 ∙ reads.0)
+file_known files between after file name (read.Bytes text) source reads next =
+    known_from files between after (by_source name (Some (record { name = file; text = text })) source) reads.0 (source_known between after name (Some (record { name = file; text = text })) source next)
+
+known : (files after : FilesSeen) (file : Option (List ℕ)) (name : List ℕ) (inputs : Inputs) → ReadsInputs files after file name inputs → IsKnown files after (meaning_of file name inputs)
+known files after None name inputs reads = source_known files after name None inputs.source reads.1
+known files after (Some file) name inputs reads = file_known files reads.0 after file name inputs.macros inputs.source reads.1 reads.2
+
+-- the status of what is written for a source
+lines_status : (text : List ℕ) (reports : List Report) (output : Output) (line : Bool) → IsByLines line text reports output → output.status < 2
+lines_status text reports output true is = omega (arith, ap (λ (w : Output). w.status) is)
+lines_status text reports output false is = omega (arith, ap (λ (w : Output). w.status) is.2)
+
+missing_status : (name text : List ℕ) (reports : List Report) (output : Output) (missing : Bool) → IsByMissing missing name text reports output → output.status < 2
+missing_status name text reports output true is = omega (arith, ap (λ (w : Output). w.status) is)
+missing_status name text reports output false is = lines_status text reports output (list_any is_line reports) is
+
+site_status : (name text : List ℕ) (declared : List MacroDecl) (sites : List Site) (asking : Asking) (output : Output) (many : Bool) → IsSiteOutput many name text declared sites asking output → output.status < 2
+site_status name text declared sites asking output true is = omega (arith, ap (λ (w : Output). w.status) is)
+site_status name text declared sites asking output false is =
+    let reports = reports_of name text declared (outcome_of is.0) sites in missing_status name text reports output (list_any is_missing reports) is.2
+
+output_status : (files after : FilesSeen) (name : List ℕ) (plugins : List Plugin) (means : Meaning) (asking : Asking) (output : Output) → IsKnown files after means → IsOutputOf name plugins means asking output
+    → ((output.status < 2) × (after.faults ≡ files.faults)) ⊎ ((output.status ≡ 3) × Rose files.faults after.faults)
+output_status files after name plugins (Refused refusal) asking output (inl low) is = inl (omega (arith, ap (λ (w : Output). w.status) is, low.0), low.1)
+output_status files after name plugins (Refused refusal) asking output (inr unread) is = inr (ap (λ (w : Output). w.status) is ∙ unread.0, unread.1)
+output_status files after name plugins (Means source declared) asking output same is =
+    inl (site_status name source.text declared (sites_of source declared plugins) asking output (are_too_many (sites_of source declared plugins)) is, same)
 
 -- what was written, where the status is 0
 delivered_zero : (out out_after err err_after : SinkSeen) (output : Output) (status : ℕ) → IsDelivered out out_after err err_after output status → status ≡ 0
@@ -66,65 +124,46 @@ delivered_zero out out_after err err_after output status (whole to_out to_err) z
 delivered_zero out out_after err err_after output status (out_failed front same) zero = absurd (omega arith)
 delivered_zero out out_after err err_after output status (err_failed to_out front) zero = absurd (omega arith)
 
-kept_in : (name : List ℕ) (plugins : List Plugin) (text : List ℕ) (means : Reading) (asking : Asking) (output : Output)
-    → IsExpansionOf name plugins text means asking output → output.status ≡ 0 → KeepsOutside text (site_in text plugins means) output.out
-kept_in name plugins text (reading.Refused fault) asking output is zero = zero_one output.status (ap (λ (w : Output). w.status) is.1) zero
-kept_in name plugins text (reading.NotBuilt at) asking output is zero = zero_one output.status (ap (λ (w : Output). w.status) is.1) zero
-kept_in name plugins text (reading.Built form) asking output is zero = site_kept name text form.declarations (site_of text plugins form) is.0 output is.2 zero
+-- the status is 0 where there is neither a line nor a missing outcome
+abbrev Kept : List ℕ → List Span → Output → Type 0
+Kept text spans output = (edits : List Edit) × (map replaced edits ≡ spans) × IsEdited text edits output.out
 
-pub keeps_bytes : (name : List ℕ) (plugins : List Plugin) (source : SourceRead) (asking : Asking) (output : Output)
-    (out out_after err err_after : SinkSeen) (status : ℕ)
-    → IsExpansion name plugins source asking output → IsDelivered out out_after err err_after output status
-    → KeepsBytes plugins source status out out_after
-keeps_bytes name plugins read.Nothing asking output out out_after err err_after status is delivered zero = is
-keeps_bytes name plugins read.Failed asking output out out_after err err_after status is delivered zero =
-    absurd (omega (arith, ap (λ (w : Output). w.status) is.1, (delivered_zero out out_after err err_after output status delivered zero).0))
-keeps_bytes name plugins read.Larger asking output out out_after err err_after status is delivered zero =
-    absurd (omega (arith, ap (λ (w : Output). w.status) is.1, (delivered_zero out out_after err err_after output status delivered zero).0))
-keeps_bytes name plugins (read.Bytes text) asking output out out_after err err_after status is delivered zero =
+no_zero : {A : Type 0} (output : Output) (n : ℕ) → output.status ≡ suc n → output.status ≡ 0 → A
+no_zero output n is zero = absurd (omega (arith, is, zero))
+
+module _ (name text : List ℕ) (declared : List MacroDecl) (table : KeySteps → Option Outcome) (sites : List Site) (output : Output) (zero : output.status ≡ 0) where
+  lines_kept : (line : Bool) → list_any is_missing (reports_of name text declared table sites) ≡ false → list_any is_line (reports_of name text declared table sites) ≡ line
+      → IsByLines line text (reports_of name text declared table sites) output → Kept text (spans_of sites) output
+  lines_kept true there is answer = no_zero output 0 (ap (λ (w : Output). w.status) answer) zero
+  lines_kept false there is answer =
+      (edits_in (reports_of name text declared table sites), reports_replace name text declared table sites there is,
+      subst (IsEdited text (edits_in (reports_of name text declared table sites))) (sym (ap (λ (w : Output). w.out) answer.2)) answer.1)
+
+  missing_kept : (missing : Bool) → list_any is_missing (reports_of name text declared table sites) ≡ missing → IsByMissing missing name text (reports_of name text declared table sites) output
+      → Kept text (spans_of sites) output
+  missing_kept true is answer = no_zero output 0 (ap (λ (w : Output). w.status) answer) zero
+  missing_kept false is answer = lines_kept (list_any is_line (reports_of name text declared table sites)) is refl answer
+
+site_kept : (name text : List ℕ) (declared : List MacroDecl) (sites : List Site) (asking : Asking) (output : Output) (many : Bool) → output.status ≡ 0
+    → IsSiteOutput many name text declared sites asking output → Kept text (spans_of sites) output
+site_kept name text declared sites asking output true zero is = no_zero output 0 (ap (λ (w : Output). w.status) is) zero
+site_kept name text declared sites asking output false zero is =
+    missing_kept name text declared (outcome_of is.0) sites output zero (list_any is_missing (reports_of name text declared (outcome_of is.0) sites)) refl is.2
+
+output_kept : (files after : FilesSeen) (name : List ℕ) (plugins : List Plugin) (means : Meaning) (asking : Asking) (output : Output) → IsKnown files after means → output.status ≡ 0
+    → IsOutputOf name plugins means asking output → KeepsOutside plugins means output.out
+output_kept files after name plugins (Refused refusal) asking output (inl low) zero is = no_zero output 0 (ap (λ (w : Output). w.status) is ∙ low.0) zero
+output_kept files after name plugins (Refused refusal) asking output (inr unread) zero is = no_zero output 2 (ap (λ (w : Output). w.status) is ∙ unread.0) zero
+output_kept files after name plugins (Means source declared) asking output same zero is =
+    let kept = site_kept name source.text declared (sites_of source declared plugins) asking output (are_too_many (sites_of source declared plugins)) zero is in
+    record { edits = kept.0; spans = kept.1; kept = kept.2 }
+
+pub keeps_bytes : (file : Option (List ℕ)) (name : List ℕ) (plugins : List Plugin) (inputs : Inputs) (asking : Asking) (output : Output) (files files_after : FilesSeen)
+    (out out_after err err_after : SinkSeen) (status : ℕ) → ReadsInputs files files_after file name inputs → IsExpansion name plugins (meaning_of file name inputs) asking output
+    → IsDelivered out out_after err err_after output status → KeepsBytes file name plugins inputs status out out_after
+keeps_bytes file name plugins inputs asking output files files_after out out_after err err_after status reads is delivered zero =
     let wrote = delivered_zero out out_after err err_after output status delivered zero in
-    (output.out, kept_in name plugins text (reading_of text) asking output is wrote.0, wrote.1)
-
--- the status of what is to be written
-spliced_status : (name text : List ℕ) (macro_use : MacroUse) (reply : List ℕ) (put : Splice) → (spliced_output name text macro_use reply put).status < 2
-spliced_status name text macro_use reply splice.NotYet = omega arith
-spliced_status name text macro_use reply (splice.Refused fault) = omega arith
-spliced_status name text macro_use reply (splice.Bytes bytes) = omega arith
-
-reply_status : (name text : List ℕ) (declarations : List Declaration) (macro_use : MacroUse) (reply : Option (List ℕ)) (diagnostics : List Diagnostic)
-    → (reply_output name text declarations macro_use reply diagnostics).status < 2
-reply_status name text declarations macro_use None diagnostics = omega arith
-reply_status name text declarations macro_use (Some reply) [] = spliced_status name text macro_use reply (splice_of text declarations reply)
-reply_status name text declarations macro_use (Some reply) (diagnostic ∷ diagnostics) = omega arith
-
-outcome_status : (name text : List ℕ) (declarations : List Declaration) (macro_use : MacroUse) (declaration : Declaration) (o : Option Outcome)
-    → (outcome_output name text declarations macro_use declaration o).status < 2
-outcome_status name text declarations macro_use declaration None = omega arith
-outcome_status name text declarations macro_use declaration (Some (outcome.Failed cause)) = omega arith
-outcome_status name text declarations macro_use declaration (Some (outcome.Reply reply diagnostics)) =
-    reply_status name text declarations macro_use reply diagnostics
-
-site_status : (name text : List ℕ) (declarations : List Declaration) (place : Site) (o : Option Outcome) → (site_output name text declarations place o).status < 2
-site_status name text declarations site.Nothing o = omega arith
-site_status name text declarations (site.Unknown macro_use) o = omega arith
-site_status name text declarations (site.NoPlugin macro_use declaration) o = omega arith
-site_status name text declarations (site.Asks macro_use declaration) o = outcome_status name text declarations macro_use declaration o
-
-form_status : (name : List ℕ) (plugins : List Plugin) (text : List ℕ) (means : Reading) (asking : Asking) (output : Output)
-    → IsExpansionOf name plugins text means asking output → output.status < 2
-form_status name plugins text (reading.Refused fault) asking output is = omega (arith, ap (λ (w : Output). w.status) is.1)
-form_status name plugins text (reading.NotBuilt at) asking output is = omega (arith, ap (λ (w : Output). w.status) is.1)
-form_status name plugins text (reading.Built form) asking output is =
-    omega (arith, ap (λ (w : Output). w.status) is.2, site_status name text form.declarations (site_of text plugins form) is.0)
-
--- its status is 0 or 1, or 3 where the source could not be read
-output_status : (name : List ℕ) (plugins : List Plugin) (source : SourceRead) (asking : Asking) (output : Output) (files files_after : FilesSeen)
-    → IsExpansion name plugins source asking output → ReadsSource files files_after name source
-    → ((output.status < 2) × (files_after.faults ≡ files.faults)) ⊎ ((output.status ≡ 3) × Rose files.faults files_after.faults)
-output_status name plugins read.Nothing asking output files files_after is reads = absurd is
-output_status name plugins read.Failed asking output files files_after is reads = inr (ap (λ (w : Output). w.status) is.1, reads.0)
-output_status name plugins read.Larger asking output files files_after is reads = inl (omega (arith, ap (λ (w : Output). w.status) is.1), reads.0)
-output_status name plugins (read.Bytes text) asking output files files_after is reads = inl (form_status name plugins text (reading_of text) asking output is, reads.0)
+    (output.out, output_kept files files_after name plugins (meaning_of file name inputs) asking output (known files files_after file name inputs reads) wrote.0 is.writes, wrote.1)
 
 whole_cause : (files files_after : FilesSeen) (out out_after err err_after : SinkSeen) (status : ℕ) → out_after.faults ≡ out.faults → err_after.faults ≡ err.faults
     → ((status < 2) × (files_after.faults ≡ files.faults)) ⊎ ((status ≡ 3) × Rose files.faults files_after.faults) → StatusHasCause status files files_after out out_after err err_after
@@ -159,15 +198,15 @@ four_cause files files_after out out_after err err_after cause = record {
   err_fails = λ rose. refl;
 }
 
-pub status_has_cause : (name : List ℕ) (plugins : List Plugin) (source : SourceRead) (asking : Asking) (output : Output)
-    (files files_after : FilesSeen) (out out_after err err_after : SinkSeen) (status : ℕ)
-    → IsExpansion name plugins source asking output → ReadsSource files files_after name source → IsDelivered out out_after err err_after output status
-    → StatusHasCause status files files_after out out_after err err_after
-status_has_cause name plugins source asking output files files_after out out_after err err_after status is reads (whole to_out to_err) =
-    whole_cause files files_after out out_after err err_after output.status to_out.faults to_err.faults (output_status name plugins source asking output files files_after is reads)
-status_has_cause name plugins source asking output files files_after out out_after err err_after status is reads (out_failed front same) =
+pub status_has_cause : (file : Option (List ℕ)) (name : List ℕ) (plugins : List Plugin) (inputs : Inputs) (asking : Asking) (output : Output) (files files_after : FilesSeen)
+    (out out_after err err_after : SinkSeen) (status : ℕ) → ReadsInputs files files_after file name inputs → IsExpansion name plugins (meaning_of file name inputs) asking output
+    → IsDelivered out out_after err err_after output status → StatusHasCause status files files_after out out_after err err_after
+status_has_cause file name plugins inputs asking output files files_after out out_after err err_after status reads is (whole to_out to_err) =
+    whole_cause files files_after out out_after err err_after output.status to_out.faults to_err.faults
+    (output_status files files_after name plugins (meaning_of file name inputs) asking output (known files files_after file name inputs reads) is.writes)
+status_has_cause file name plugins inputs asking output files files_after out out_after err err_after status reads is (out_failed front same) =
     four_cause files files_after out out_after err err_after (inl front.faults)
-status_has_cause name plugins source asking output files files_after out out_after err err_after status is reads (err_failed to_out front) =
+status_has_cause file name plugins inputs asking output files files_after out out_after err err_after status reads is (err_failed to_out front) =
     four_cause files files_after out out_after err err_after (inr front.faults)
 
 -- a run that wrote doesn't answer want of memory
@@ -175,3 +214,17 @@ pub usage_is_not_five : (out out_after err err_after : SinkSeen) (status : ℕ) 
 usage_is_not_five out out_after err err_after status (whole to_out to_err) five = omega arith
 usage_is_not_five out out_after err err_after status (out_failed front same) five = omega arith
 usage_is_not_five out out_after err err_after status (err_failed to_out front) five = omega arith
+
+pub none_some : {A : Type 0} (x : A) → None ≡ Some x → ⊥
+none_some {A} x is = let P : Option A → Type 0 = λ o. elim o [ None ↦ Unit {0} | Some y ↦ ⊥ ] in subst P is tt
+
+serves : OnlyLastKeysFail → (wanted : List Wanted) (link : LinkSeen) → IsServedOf wanted link → IsServedOf wanted link × RepliesInOrder link
+serves law wanted link served = (served, λ outcomes table. law served.earlier served.last link outcomes served.serves table)
+
+all_serve : OnlyLastKeysFail → (wanted : List Wanted) (links : List LinkSeen) → Each (IsServedOf wanted) links → Each (λ link. IsServedOf wanted link × RepliesInOrder link) links
+all_serve law wanted [] each = tt
+all_serve law wanted (link ∷ links) each = (serves law wanted link each.0, all_serve law wanted links each.1)
+
+pub links_serve : OnlyLastKeysFail → (file : Option (List ℕ)) (name : List ℕ) (plugins : List Plugin) (inputs : Inputs) (asking : Asking)
+    → Each (IsServedOf (wanted_of_run file name plugins inputs)) asking.links → LinksServe file name plugins inputs asking
+links_serve law file name plugins inputs asking each = all_serve law (wanted_of_run file name plugins inputs) asking.links each

@@ -1,15 +1,12 @@
 -- The answer for a source and the outcomes of what was asked at its sites. This project's own.
 use Rattle.std.specs.Prelude.{◌≡◌, ℕ, ◌≤◌, if◌then◌else◌, Bool, true, false, Option, Some, None, List, [], ◌∷◌, ◌++◌, length, map, drop, slice_range, codes}
 use Rattle.std.specs.List.{flat_map, list_any}
-use Rattle.std.specs.List.Sorted.{IsPermutation}
-use Rattle.swift_base.specs.declared.place.Span.{Span}
 use Rattle.unique_names.specs.Names.{discriminator_of}
 use Rattle.plugin_messages.specs.declared.message.Diagnostic.{Diagnostic}
 use Rattle.plugin_messages.specs.declared.message.Outcome.{Outcome}
 use Rattle.plugin_messages.specs.declared.message.Outcome.TheVariants as outcome
 use Rattle.macro_decls.specs.declared.table.MacroDecl.{MacroDecl}
 use Rattle.expansion_model.specs.Requests.{key_of}
-use Rattle.expansion_model.specs.Spans.{LieApart}
 use Rattle.expansion_model.specs.declared.site.Ask.{Ask}
 use Rattle.expansion_model.specs.declared.site.Site.{Site}
 use Rattle.expansion_model.specs.declared.site.Site.TheVariants as site
@@ -17,7 +14,8 @@ use Rattle.link_driver.specs.Links.{KeySteps}
 use Rattle.expand_top.specs.Faults.{fault_text, site_fault_text, not_built, no_reply_text, too_many_bytes}
 use Rattle.expand_top.specs.Lines.{Output, error_at, faults, prints, refuses}
 use Rattle.expand_top.specs.Splices.{splice_of}
-use Rattle.expand_top.specs.declared.edit.Edit.{Edit}
+use Rattle.result_splice.specs.Edits.{CanBeMade, IsEdited}
+use Rattle.result_splice.specs.declared.edit.Edit.{Edit}
 use Rattle.expand_top.specs.declared.answer.Report.{Report}
 use Rattle.expand_top.specs.declared.answer.Report.TheVariants as report
 use Rattle.expand_top.specs.declared.splice.Splice.{Splice}
@@ -37,7 +35,7 @@ line_at name text ask message = report.Line (error_at name text ask.macro_use.sp
 abbrev pub splice_report : List ℕ → List ℕ → Ask → List ℕ → Splice → Report
 splice_report name text ask reply splice.NotYet = line_at name text ask not_built
 splice_report name text ask reply (splice.Refused fault) = report.Line (error_at (buffer_name ask) reply fault.at (fault_text fault.kind))
-splice_report name text ask reply (splice.Bytes bytes) = report.Puts (record { span = ask.macro_use.span; bytes = in_brackets bytes })
+splice_report name text ask reply (splice.Bytes bytes) = report.Puts (record { start = ask.macro_use.span.start; end = ask.macro_use.span.end; bytes = in_brackets bytes })
 
 -- a reply without a text or with a diagnostic isn't put in yet
 abbrev pub reply_report : List ℕ → List ℕ → List MacroDecl → Ask → Option (List ℕ) → List Diagnostic → Report
@@ -55,7 +53,7 @@ abbrev pub site_report : List ℕ → List ℕ → List MacroDecl → (KeySteps 
 site_report name text macros table (site.Asks ask) = outcome_report name text macros ask (table (key_of ask))
 site_report name text macros table (site.Fault fault) = report.Line (error_at name text fault.at (site_fault_text fault.kind fault.name))
 site_report name text macros table (site.NotBuilt at) = report.Line (error_at name text at not_built)
-site_report name text macros table (site.Attribute span) = report.Puts (record { span = span; bytes = codes " " })
+site_report name text macros table (site.Attribute span) = report.Puts (record { start = span.start; end = span.end; bytes = codes " " })
 
 -- where a site stands
 abbrev pub offset_of : Site → ℕ
@@ -90,26 +88,9 @@ edit_of (report.Puts edit) = edit ∷ []
 abbrev pub edits_in : List Report → List Edit
 edits_in reports = flat_map edit_of reports
 
--- where there are edits alone, their spans lie in the text, and apart
+-- where there are edits alone, they can be made
 abbrev pub AreEditsApart : List ℕ → List Report → Type 0
-AreEditsApart text reports = list_any is_missing reports ≡ false → list_any is_line reports ≡ false → LieApart 0 (length text) (map (λ edit. edit.span) (edits_in reports))
-
--- edits, each behind the one before, between two places
-abbrev pub EditsLie : ℕ → List Edit → ℕ → Type 0
-EditsLie from [] to = from ≤ to
-EditsLie from (edit ∷ edits) to = (from ≤ edit.span.start) × (edit.span.start ≤ edit.span.end) × EditsLie edit.span.end edits to
-
--- the text from a place on, with the edits in the place of their spans
-abbrev pub edited : List ℕ → ℕ → List Edit → List ℕ
-edited text from [] = drop from text
-edited text from (edit ∷ edits) = slice_range text from edit.span.start ++ (edit.bytes ++ edited text edit.span.end edits)
-
--- The text with all edits, which stand in it one behind the other: all bytes outside them are kept.
-pub record IsEdited (text : List ℕ) (edits : List Edit) (bytes : List ℕ) : Type 0 where
-  pub in_order : List Edit
-  pub same : IsPermutation edits in_order
-  pub lie : EditsLie 0 in_order (length text)
-  pub made : bytes ≡ edited text 0 in_order
+AreEditsApart text reports = list_any is_missing reports ≡ false → list_any is_line reports ≡ false → CanBeMade (length text) (edits_in reports)
 
 abbrev pub IsFile : List ℕ → List Report → Output → Type 0
 IsFile text reports output = (bytes : List ℕ) × IsEdited text (edits_in reports) bytes × (output ≡ prints bytes)

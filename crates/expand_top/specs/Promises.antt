@@ -12,10 +12,10 @@ use Rattle.link_driver.specs.Laws.{AsksOnce, IsServedOf, HasRepliesButLast, Gave
 use Rattle.link_driver.specs.Links.{LinkSeen}
 use Rattle.link_driver.specs.LinkTable.{IsTableOf}
 use Rattle.link_driver.specs.Requests.{Wanted}
-use Rattle.expand_top.specs.Answer.{IsEdited}
+use Rattle.result_splice.specs.Edits.{IsEdited}
+use Rattle.result_splice.specs.declared.edit.Edit.{Edit}
 use Rattle.expand_top.specs.Asking.{Asking, wanted_by}
 use Rattle.expand_top.specs.Meaning.{Meaning, Refused, Means, meaning_of}
-use Rattle.expand_top.specs.declared.edit.Edit.{Edit}
 use Rattle.expand_top.specs.declared.ended.Inputs.{Inputs}
 
 -- what is asked for the files of a command
@@ -58,10 +58,13 @@ abbrev pub text_in : Meaning → List ℕ
 text_in (Refused output) = []
 text_in (Means source macros) = source.text
 
+abbrev pub replaced : Edit → Span
+replaced edit = record { start = edit.start; end = edit.end }
+
 -- The bytes are the source's outside what is replaced: the uses that were asked, and the attributes of macros.
 pub record KeepsOutside (plugins : List Plugin) (means : Meaning) (bytes : List ℕ) : Type 0 where
   pub edits : List Edit
-  pub spans : map (λ edit. edit.span) edits ≡ spans_in plugins means
+  pub spans : map replaced edits ≡ spans_in plugins means
   pub kept : IsEdited (text_in means) edits bytes
 
 -- Where the status is 0, what `out` gained is the source outside what is replaced.

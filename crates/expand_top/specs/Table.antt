@@ -3,7 +3,13 @@ use Rattle.std.specs.Prelude.{◌≡◌, if◌then◌else◌, Option, Some, None
 use Rattle.std.specs.Cmp.Lexicographic.{pointwise}
 use Rattle.unique_names.specs.Steps.{step_eq}
 use Rattle.plugin_messages.specs.declared.message.Outcome.{Outcome}
+use Rattle.indexmap.specs.IndexMap.{get}
 use Rattle.link_driver.specs.Links.{KeySteps}
+use Rattle.expand_top.specs.declared.table.Table.{Table}
+
+-- the outcome that the code's table has under a key
+abbrev pub look : Table → KeySteps → Option Outcome
+look table key = get (pointwise step_eq) table.outcomes key
 
 -- what was put last under a key, behind an outcome from before
 abbrev pub outcome_after : Option Outcome → List (KeySteps × Outcome) → KeySteps → Option Outcome

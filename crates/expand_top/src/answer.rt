@@ -1,17 +1,16 @@
 // The answer for a source and the outcomes of what was asked at its sites.
 ghost use Rattle.std.specs.Prelude.{◌≡◌, ◌++◌, ◌∷◌, [], ◌<◌, ◌-◌, ◌^◌, IfOk, List, length, map, option_copied};
 ghost use Rattle.std.specs.List.{flat_map, list_any};
-ghost use Rattle.std.specs.List.Sorted.{IsPermutation};
 ghost use Rattle.expansion_model.specs.Requests.{place_of, IsPlaceIn};
-ghost use Rattle.expansion_model.specs.Spans.{LieApart, spans_of};
-ghost use Rattle.expand_top.specs.Answer.{buffer_name, in_brackets, line_at, splice_report, reply_report, outcome_report, site_report, reports_of, offset_of, AreEditsApart, is_missing, is_line, line_of, edit_of, edits_in, EditsLie, IsEdited, IsFile, IsByLines, IsAnswer};
+ghost use Rattle.result_splice.specs.Edits.{CanBeMade};
+ghost use Rattle.expand_top.specs.Answer.{buffer_name, in_brackets, line_at, splice_report, reply_report, outcome_report, site_report, reports_of, offset_of, AreEditsApart, is_missing, is_line, line_of, edit_of, edits_in, IsFile, IsByLines, IsAnswer};
 ghost use Rattle.expand_top.specs.Faults.{fault_text};
 ghost use Rattle.expand_top.specs.Lines.{error_at, output_seen};
 ghost use Rattle.expand_top.specs.Splices.{IsNear};
+ghost use Rattle.expand_top.specs.Table.{look};
 ghost use Rattle.expand_top.specs.declared.answer.Report.TheVariants as Report;
 ghost use Rattle.expand_top.specs.declared.splice.Splice.TheVariants.{Refused};
 
-use crate::edit::{Edit, edited};
 use crate::faults::{
     NOT_BUILT, TOO_MANY_BYTES, fault_text, no_reply_text, site_fault_text,
 };
@@ -23,6 +22,7 @@ use decl_parser::{LONGEST_SOURCE, ParseFault};
 use expansion_model::{Ask, FIRST_PLACE, Place, Site, key_of, place_from};
 use macro_decls::MacroTable;
 use plugin_messages::{Diagnostic, Outcome};
+use result_splice::{Edit, apply};
 use std::alloc::{AllocError, Global};
 use swift_base::{Text, line_column};
 use unique_names::discriminator;
@@ -105,7 +105,8 @@ fn splice_report(
         Splice::NotYet => line(alloc, name, text, place, NOT_BUILT),
         Splice::Refused(fault) => fault_line(alloc, ask, reply, fault),
         Splice::Bytes(bytes) => Ok(Report::Puts(Edit {
-            span: ask.macro_use.span,
+            start: ask.macro_use.span.start,
+            end: ask.macro_use.span.end,
             bytes: in_brackets(alloc, bytes.bytes())?,
         })),
     }
@@ -182,7 +183,7 @@ fn site_report(
     site: &Site,
 ) -> Result<Report, AllocError>
     requires { place ≡ place_of text.now (offset_of site.now) }
-    ensures { IfOk result (λ report. report ≡ site_report name.now text.now macros.now table.now site.now) }
+    ensures { IfOk result (λ report. report ≡ site_report name.now text.now macros.now (look table.now) site.now) }
 {
     match site {
         Site::Asks(ask) => {
@@ -195,7 +196,8 @@ fn site_report(
         }
         Site::NotBuilt(_) => line(alloc, name, text, place, NOT_BUILT),
         Site::Attribute(span) => Ok(Report::Puts(Edit {
-            span: *span,
+            start: span.start,
+            end: span.end,
             bytes: Text::from_bytes(alloc, b" ")?,
         })),
     }
@@ -212,7 +214,7 @@ pub fn reports_of(
     sites: &[Site],
 ) -> Result<Vec<Report>, AllocError>
     requires { length text.now < 2 ^ 32 - 1 }
-    ensures { IfOk result (λ reports. reports.items ≡ reports_of name.now text.now macros.now table.now sites.now) }
+    ensures { IfOk result (λ reports. reports.items ≡ reports_of name.now text.now macros.now (look table.now) sites.now) }
 {
     let mut reports = Vec::with_capacity(alloc, sites.len())?;
     let mut place = FIRST_PLACE;
@@ -274,24 +276,13 @@ fn edits_in(alloc: Global, reports: Vec<Report>) -> Result<Vec<Edit>, AllocError
     Ok(edits)
 }
 
-/// The edits of a text one behind the other.
-fn in_order(edits: Vec<Edit>, text: &[u8]) -> Result<Vec<Edit>, AllocError>
-    requires { LieApart 0 (length text.now) (map (λ edit. edit.span) edits.items) }
-    ensures same { IfOk result (λ sorted. IsPermutation edits.items sorted.items) }
-    ensures lie { IfOk result (λ sorted. EditsLie 0 sorted.items (length text.now)) }
-{
-    let mut sorted = edits;
-    sorted.sort_by_key(|edit| edit.span.start)?;
-    Ok(sorted)
-}
-
 /// The file: the text with the edits of its sites.
 fn file_of(alloc: Global, text: &[u8], reports: Vec<Report>) -> Result<Output, AllocError>
-    requires { LieApart 0 (length text.now) (map (λ edit. edit.span) (edits_in reports.items)) }
+    requires { CanBeMade (length text.now) (edits_in reports.items) }
     ensures { IfOk result (λ output. IsFile text.now reports.items (output_seen output)) }
 {
-    let sorted = in_order(edits_in(alloc, reports)?, text)?;
-    Ok(prints(alloc, edited(alloc, text, &sorted)?))
+    let edits = edits_in(alloc, reports)?;
+    Ok(prints(alloc, apply(alloc, text, edits)?))
 }
 
 /// The answer for what became of the sites of a text.

@@ -1,9 +1,9 @@
 // The words of the command line.
-ghost use Rattle.std.specs.Prelude.{◌≡◌, ◌==◌, ◌∷◌, [], Some, None, IfOk, IfSome, position, string_bytes, option_map, map};
+ghost use Rattle.std.specs.Prelude.{◌≡◌, ◌==◌, ◌∷◌, [], Some, None, IfNone, IfOk, IfSome, position, string_bytes, option_map, map};
 ghost use Rattle.std.specs.List.{All, list_all};
 ghost use Rattle.expand_top.specs.Asking.{IsStartable};
 ghost use Rattle.expand_top.specs.declared.command.Command.TheVariants.{Expand};
-ghost use Rattle.expand_top.specs.Command.{plugin_of, plugins_of, begins_module, continues_module, is_module, is_plain, source_words, macros_words, option_words, named_in, command_named, named_seen};
+ghost use Rattle.expand_top.specs.Command.{plugin_of, plugins_of, begins_module, continues_module, is_module, is_plain, source_words, macros_words, option_words, named_in, command_named, command_of, named_seen};
 
 use std::alloc::{AllocError, Global};
 use swift_base::{Plugin, Plugins, Text};
@@ -111,7 +111,7 @@ pub struct Named<'a> {
 }
 
 fn source_words<'a>(macros: Option<&'a String>, words: &'a [String]) -> Option<Named<'a>>
-    ensures { option_map named_seen result ≡ source_words (option_map (λ w. string_bytes w.now) macros) (map string_bytes words.now) }
+    ensures { option_map named_seen result ≡ source_words (option_map (λ w. string_bytes w.now) macros.entry) (map string_bytes words.now) }
 {
     let (source, plugin) = match words {
         [source] => (source, None),
@@ -148,8 +148,7 @@ fn option_words(words: &[String]) -> Option<Named<'_>>
     source_words(None, words)
 }
 
-/// What the words `expand [--macros FILE] SOURCE [MODULE=COMMAND]` name.
-pub fn named_in(words: &[String]) -> Option<Named<'_>>
+fn verb_words(words: &[String]) -> Option<Named<'_>>
     ensures { option_map named_seen result ≡ named_in (map string_bytes words.now) }
 {
     let (verb, words) = words.split_first()?;
@@ -159,10 +158,18 @@ pub fn named_in(words: &[String]) -> Option<Named<'_>>
     option_words(words)
 }
 
+/// What the words `expand [--macros FILE] SOURCE [MODULE=COMMAND]` name.
+pub fn named_in(words: &[String]) -> Option<Named<'_>>
+    ensures none { IfNone result (command_of (map string_bytes words.now) ≡ None) }
+    ensures some { IfSome result (λ named. command_of (map string_bytes words.now) ≡ command_named (named_seen named)) }
+{
+    verb_words(words)
+}
+
 /// The plug-ins that a command names, where its word is one.
 pub fn named_plugins(alloc: Global, named: Named<'_>) -> Result<Option<Plugins>, AllocError>
-    ensures plugins { IfOk result (λ plugins. command_named (named_seen named)
-        ≡ option_map (Expand (named_seen named).source (named_seen named).macros) plugins) }
+    ensures plugins { IfOk result (λ plugins. command_named (named_seen named.entry)
+        ≡ option_map (Expand (named_seen named.entry).source (named_seen named.entry).macros) plugins) }
     ensures startable { IfOk result (λ plugins. IfSome plugins (All IsStartable)) }
 {
     plugins_of(alloc, named.plugin)

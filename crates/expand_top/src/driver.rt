@@ -27,7 +27,7 @@ use crate::meaning::{Meaning, meaning_of};
 use crate::report::{Output, refuses};
 use crate::table::Table;
 use expansion_model::{Site, sites, sites_lie_apart};
-use link_driver::{Closed, Ran, Unstarted, run_table};
+use link_driver::{Closed, Ran, Unstarted, only_last_keys_fail, run_table};
 use macro_decls::MacroTable;
 use std::alloc::{AllocError, Global};
 use swift_base::{FileFault, Files, Plugin, Plugins, Sink, Starter, Text, WriteFault, write_all};
@@ -111,7 +111,7 @@ struct Expansion<W: Drop, R: Drop> {
     output: Output,
 }
 
-fn expansion<W: Drop, R: Drop>(ran: Ran<W, R>, output: Output) -> Expansion<W, R>
+fn expanded_with<W: Drop, R: Drop>(ran: Ran<W, R>, output: Output) -> Expansion<W, R>
     ensures links { result.links ≡ ran.links }
     ensures unstarted { result.unstarted ≡ ran.unstarted }
     ensures output { result.output ≡ output }
@@ -165,11 +165,11 @@ fn expand_sites<P: Starter>(
 {
     if are_too_many(sites) {
         let output = refuses(alloc, name, 1, 1, TOO_MANY_REQUESTS)?;
-        return Ok(expansion(ask_nothing(alloc, starter)?, output));
+        return Ok(expanded_with(ask_nothing(alloc, starter)?, output));
     }
     let ran = ask_sites(alloc, starter, name, plugins, source.text.bytes(), sites)?;
     let output = site_output::<P>(alloc, name, source, macros, sites, &ran)?;
-    Ok(expansion(ran, output))
+    Ok(expanded_with(ran, output))
 }
 
 fn expand_source<P: Starter>(
@@ -205,7 +205,7 @@ fn expand_meaning<P: Starter>(
         (asking_of (map (link_seen P.Writer.seen P.Reader.seen) e.links.items) e.unstarted.items (P.seen starter.old) (P.seen starter.new)) (output_seen e.output)) }
 {
     match means {
-        Meaning::Refused(output) => Ok(expansion(ask_nothing(alloc, starter)?, output)),
+        Meaning::Refused(output) => Ok(expanded_with(ask_nothing(alloc, starter)?, output)),
         Meaning::Means(source, macros) => {
             expand_source(alloc, starter, name, plugins, &source, &macros)
         }
@@ -326,10 +326,10 @@ fn run_named<F: Files, O: Sink, E: Sink, P: Starter>(
     err: &mut E,
     starter: &mut P,
 ) -> Ended<P::Writer, P::Reader>
-    ensures refused { command_named (named_seen named) ≡ None
+    ensures refused { command_named (named_seen named.entry) ≡ None
         → IsRefused (O.seen out.old) (O.seen out.new) (E.seen err.old) (E.seen err.new) result.status result.links.items result.unstarted.items }
-    ensures untouched { command_named (named_seen named) ≡ None → (files.new ≡ files.old) × (starter.new ≡ starter.old) }
-    ensures expanded { (name : List ℕ) (macros : Option (List ℕ)) (plugins : List Plugin) → command_named (named_seen named) ≡ Some (Command.Expand name macros plugins)
+    ensures untouched { command_named (named_seen named.entry) ≡ None → (files.new ≡ files.old) × (starter.new ≡ starter.old) }
+    ensures expanded { (name : List ℕ) (macros : Option (List ℕ)) (plugins : List Plugin) → command_named (named_seen named.entry) ≡ Some (Command.Expand name macros plugins)
         → (result.status ≡ 5 → ⊥) → Expands macros name plugins (F.seen files.old) (F.seen files.new)
         (O.seen out.old) (O.seen out.new) (E.seen err.old) (E.seen err.new) result.status result.read
         (asking_of (map (link_seen P.Writer.seen P.Reader.seen) result.links.items) result.unstarted.items (P.seen starter.old) (P.seen starter.new)) }
@@ -392,6 +392,7 @@ pub fn run<T: AllocGlobal + Copy + Drop, F: Files, O: Sink, E: Sink, P: Starter>
     // Want of memory is met before the first byte is written.
     ensures memory { result.status ≡ 5 → IsUnwritten (O.seen out.old) (O.seen out.new) (E.seen err.old) (E.seen err.new) }
 {
+    only_last_keys_fail();
     let alloc = rt.alloc();
     let Some(named) = named_in(words) else {
         return refuse(alloc, out, err);

@@ -7,7 +7,6 @@ mod answer;
 mod asking;
 mod command;
 mod driver;
-mod edit;
 mod ended;
 mod faults;
 mod meaning;

@@ -1,7 +1,7 @@
 // What the files of a command mean: a source with its macros, or a refusal.
-ghost use Rattle.std.specs.Prelude.{◌≡◌, ◌++◌, ◌<◌, ◌-◌, ◌^◌, IfOk, length, map, option_map};
+ghost use Rattle.std.specs.Prelude.{◌≡◌, ◌++◌, ◌∷◌, [], ◌<◌, ◌-◌, ◌^◌, IfOk, length, map, option_map};
 ghost use Rattle.std.specs.Option.{option_copied};
-ghost use Rattle.swift_tree.specs.Outlines.{outline_of};
+ghost use Rattle.swift_tree.specs.Outlines.{OutlineSeen, outline_of};
 ghost use Rattle.macro_decls.specs.Macros.{macros};
 ghost use Rattle.expansion_model.specs.Requests.{place_of, IsPlaceIn};
 ghost use Rattle.expand_top.specs.Faults.{fault_text, too_large};
@@ -15,7 +15,7 @@ use crate::faults::{fault_text, macro_fault_text};
 use crate::report::{Output, error_at, faults, refuses, refuses_at, unread};
 use crate::slices::add;
 use crate::texts::NamedText;
-use decl_parser::{ParseFault, ParseKind, parse_file};
+use decl_parser::{ParseFault, ParseKind, outline_keeps_the_text, parse_file};
 use expansion_model::{FIRST_PLACE, Place, place_from};
 use macro_decls::{MacroFault, MacroTable};
 use std::alloc::{AllocError, Global};
@@ -103,17 +103,29 @@ enum Declared {
     Refused(Output),
 }
 
-fn declared(
+// All of one lifetime, as the table of macros takes them.
+fn borrowed(alloc: Global, outlines: &[Outline]) -> Result<Vec<&Outline>, AllocError>
+    ensures { IfOk result (λ list. map (λ o. o.now) list.items ≡ outlines.now) }
+{
+    let mut list = Vec::new(alloc);
+    'outlines: for outline in outlines {
+        list.push(outline)?;
+    }
+    Ok(list)
+}
+
+fn declare(
     alloc: Global,
     files: &[NamedText<'_>],
-    outlines: &[&Outline],
+    outlines: &[Outline],
 ) -> Result<Declared, AllocError>
     requires short { AreShort (map named_seen files.now) }
-    requires few { length outlines.now < 2 ^ 32 }
-    ensures meaning { IfOk result (λ d. (source : _) → declared_seen source d ≡ by_table (map named_seen files.now) source (macros (map (λ o. outline_of o.now) outlines.now))) }
+    requires few { length outlines.now < 3 }
+    ensures meaning { IfOk result (λ d. (source : OutlineSeen) → declared_seen source d ≡ by_table (map named_seen files.now) source (macros (map outline_of outlines.now))) }
     ensures readable { IfOk result AreReadable }
 {
-    match MacroTable::from_outlines(alloc, outlines) {
+    let list = borrowed(alloc, outlines)?;
+    match MacroTable::from_outlines(alloc, &list) {
         Ok(table) => Ok(Declared::Table(table)),
         Err(Refusal::Memory) => Err(AllocError),
         Err(Refusal::Fault(found)) => {
@@ -125,7 +137,7 @@ fn declared(
 
 fn refused(alloc: Global, named: NamedText<'_>, fault: ParseFault) -> Result<Meaning, AllocError>
     requires { IsShortText (named_seen named) }
-    ensures { IfOk result (λ m. meaning_seen m ≡ Refused (refuses_at (named_seen named).name (named_seen named).text fault.at (fault_text fault.kind))) }
+    ensures meaning { IfOk result (λ m. meaning_seen m ≡ Refused (refuses_at (named_seen named.entry).name (named_seen named.entry).text fault.at (fault_text fault.kind))) }
     ensures sound { IfOk result IsSound }
 {
     let message = fault_text(fault.kind);
@@ -138,36 +150,41 @@ fn refused(alloc: Global, named: NamedText<'_>, fault: ParseFault) -> Result<Mea
 fn table_meaning(
     alloc: Global,
     files: &[NamedText<'_>],
-    before: &[&Outline],
+    before: Vec<Outline>,
     source: Outline,
 ) -> Result<Meaning, AllocError>
     requires short { AreShort (map named_seen files.now) }
-    requires few { length before.now < 2 }
+    requires few { length before.items < 2 }
     requires sound { IsSoundSource (outline_of source) }
-    ensures meaning { IfOk result (λ m. meaning_seen m ≡ table_meaning (map named_seen files.now) (map (λ o. outline_of o.now) before.now) (outline_of source)) }
+    ensures meaning { IfOk result (λ m. meaning_seen m ≡ table_meaning (map named_seen files.now) (map outline_of before.items) (outline_of source)) }
     ensures sound { IfOk result IsSound }
 {
-    let mut outlines = Vec::from_slice(alloc, before)?;
-    outlines.push(&source)?;
-    match declared(alloc, files, &outlines)? {
+    let mut outlines = before;
+    outlines.push(source)?;
+    let found = declare(alloc, files, &outlines)?;
+    let Some(source) = outlines.pop() else {
+        unreachable!()
+    };
+    match found {
         Declared::Table(table) => Ok(Meaning::Means(source, table)),
         Declared::Refused(output) => Ok(Meaning::Refused(output)),
     }
 }
 
 #[tactic(auto, unfolding(crate::specs::Meaning::source_meaning))]
-fn source_meaning(
+fn source_meaning<'a>(
     alloc: Global,
-    files: &[NamedText<'_>],
-    before: &[&Outline],
-    source: NamedText<'_>,
+    files: &[NamedText<'a>],
+    before: Vec<Outline>,
+    source: NamedText<'a>,
 ) -> Result<Meaning, AllocError>
     requires short { AreShort (map named_seen files.now) }
     requires source { IsShortText (named_seen source) }
-    requires few { length before.now < 2 }
-    ensures meaning { IfOk result (λ m. meaning_seen m ≡ source_meaning (map named_seen files.now) (map (λ o. outline_of o.now) before.now) (named_seen source)) }
+    requires few { length before.items < 2 }
+    ensures meaning { IfOk result (λ m. meaning_seen m ≡ source_meaning (map named_seen files.now) (map outline_of before.items) (named_seen source.entry)) }
     ensures sound { IfOk result IsSound }
 {
+    outline_keeps_the_text();
     match parse_file(alloc, source.text) {
         Ok(outline) => {
             let mut all = Vec::from_slice(alloc, files)?;
@@ -179,22 +196,30 @@ fn source_meaning(
     }
 }
 
+fn one(alloc: Global, outline: Outline) -> Result<Vec<Outline>, AllocError>
+    ensures { IfOk result (λ list. list.items ≡ outline ∷ []) }
+{
+    let mut list = Vec::new(alloc);
+    list.push(outline)?;
+    Ok(list)
+}
+
 // The macros file is read first.
-fn text_meaning(
+fn text_meaning<'a>(
     alloc: Global,
-    file: Option<NamedText<'_>>,
-    source: NamedText<'_>,
+    file: Option<NamedText<'a>>,
+    source: NamedText<'a>,
 ) -> Result<Meaning, AllocError>
     requires file { AreShort (option_list (option_map named_seen file)) }
     requires source { IsShortText (named_seen source) }
-    ensures meaning { IfOk result (λ m. meaning_seen m ≡ text_meaning (option_map named_seen file) (named_seen source)) }
+    ensures meaning { IfOk result (λ m. meaning_seen m ≡ text_meaning (option_map named_seen file.entry) (named_seen source.entry)) }
     ensures sound { IfOk result IsSound }
 {
     let Some(file) = file else {
-        return source_meaning(alloc, &[], &[], source);
+        return source_meaning(alloc, &[], Vec::new(alloc), source);
     };
     match parse_file(alloc, file.text) {
-        Ok(outline) => source_meaning(alloc, &[file], &[&outline], source),
+        Ok(outline) => source_meaning(alloc, &[file], one(alloc, outline)?, source),
         Err(Refusal::Memory) => Err(AllocError),
         Err(Refusal::Fault(fault)) => refused(alloc, file, fault),
     }
@@ -216,15 +241,15 @@ fn not_read(alloc: Global, name: &[u8]) -> Result<Meaning, AllocError>
 }
 
 // A source by how it was read.
-fn by_source(
+fn by_source<'a>(
     alloc: Global,
-    name: &[u8],
-    file: Option<NamedText<'_>>,
-    source: &SourceRead,
+    name: &'a [u8],
+    file: Option<NamedText<'a>>,
+    source: &'a SourceRead,
 ) -> Result<Meaning, AllocError>
     requires file { AreShort (option_list (option_map named_seen file)) }
     requires source { IsShort source.now }
-    ensures meaning { IfOk result (λ m. meaning_seen m ≡ by_source name.now (option_map named_seen file) source.now) }
+    ensures meaning { IfOk result (λ m. meaning_seen m ≡ by_source name.now (option_map named_seen file.entry) source.now) }
     ensures sound { IfOk result IsSound }
 {
     match source {
@@ -238,11 +263,11 @@ fn by_source(
 }
 
 // The macros file by how it was read, and then the source.
-fn by_file(
+fn by_file<'a>(
     alloc: Global,
-    file: &[u8],
-    name: &[u8],
-    inputs: &Inputs,
+    file: &'a [u8],
+    name: &'a [u8],
+    inputs: &'a Inputs,
 ) -> Result<Meaning, AllocError>
     requires macros { IsShort inputs.now.macros }
     requires source { IsShort inputs.now.source }
@@ -263,11 +288,11 @@ fn by_file(
 }
 
 /// What the files of a command mean, by how they were read: `macros` is the name of the file of macros.
-pub fn meaning_of(
+pub fn meaning_of<'a>(
     alloc: Global,
-    macros: Option<&[u8]>,
-    name: &[u8],
-    inputs: &Inputs,
+    macros: Option<&'a [u8]>,
+    name: &'a [u8],
+    inputs: &'a Inputs,
 ) -> Result<Meaning, AllocError>
     requires macros { IsShort inputs.now.macros }
     requires source { IsShort inputs.now.source }

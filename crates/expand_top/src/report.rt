@@ -43,7 +43,7 @@ fn put_number(alloc: Global, to: &mut Vec<u8>, number: u32) -> Result<(), AllocE
     Ok(())
 }
 
-fn error_line(
+pub fn error_line(
     alloc: Global,
     name: &[u8],
     line: u32,

@@ -1,60 +1,60 @@
 use Rattle.std.proofs.Common.{sym, ◌∙◌}
-use Rattle.expand_top.proofs.Requests.{none_some}
-use Rattle.expand_top.proofs.Asked.{asked_once, links_serve, starts, stops_have_cause, failed_starts_have_cause}
-use Rattle.expand_top.proofs.Promises.{keeps_bytes, status_has_cause}
+use Rattle.link_driver.proofs.Runs.{runs_ask_once, processes_serve, stops_have_causes, runs_give_links, runs_start_as_wanted, failed_starts_have_causes}
+use Rattle.expand_top.proofs.Promises.{keeps_bytes, status_has_cause, none_some, links_serve}
 use Rattle.expand_top.proofs.driver.run.Goals as goal
 
 pub returns-clause-output : goal.returns-clause-output
-returns-clause-output g c = λ name plugins is. c.run_words.ensures.expanded name plugins (sym c.in-Some.ensures.some ∙ is)
-
-pub returns-clause-asked_once : goal.returns-clause-asked_once
-returns-clause-asked_once g c = λ name plugins is ok.
-    let done = c.run_words.ensures.expanded name plugins (sym c.in-Some.ensures.some ∙ is) ok in asked_once name plugins _ _ done.output done.expands
-
-pub returns-clause-links_serve : goal.returns-clause-links_serve
-returns-clause-links_serve g c = λ name plugins is ok.
-    let done = c.run_words.ensures.expanded name plugins (sym c.in-Some.ensures.some ∙ is) ok in links_serve name plugins _ _ done.output done.expands
-
-pub returns-clause-kept : goal.returns-clause-kept
-returns-clause-kept g c = λ name plugins is ok.
-    let done = c.run_words.ensures.expanded name plugins (sym c.in-Some.ensures.some ∙ is) ok in keeps_bytes name plugins _ _ done.output _ _ _ _ _ done.expands done.delivered
-
-pub returns-clause-status : goal.returns-clause-status
-returns-clause-status g c = λ name plugins is ok.
-    let done = c.run_words.ensures.expanded name plugins (sym c.in-Some.ensures.some ∙ is) ok in status_has_cause name plugins _ _ done.output _ _ _ _ _ _ _ done.expands done.reads done.delivered
+returns-clause-output g c = λ name macros plugins is. c.run_named.ensures.expanded name macros plugins (sym c.in-Some.ensures.some ∙ is)
 
 pub returns-in_default-clause-output : goal.returns-in_default-clause-output
-returns-in_default-clause-output g c = λ name plugins is. absurd (none_some _ (sym c.in_default.ensures.none ∙ is))
+returns-in_default-clause-output g c = λ name macros plugins is. absurd (none_some _ (sym c.in_default.ensures.none ∙ is))
+
+pub returns-clause-asked_once : goal.returns-clause-asked_once
+returns-clause-asked_once g c = λ name macros plugins is ok.
+    let done = c.run_named.ensures.expanded name macros plugins (sym c.in-Some.ensures.some ∙ is) ok in runs_ask_once _ _ _ _ _ done.expands.asks
 
 pub returns-in_default-clause-asked_once : goal.returns-in_default-clause-asked_once
-returns-in_default-clause-asked_once g c = λ name plugins is. absurd (none_some _ (sym c.in_default.ensures.none ∙ is))
+returns-in_default-clause-asked_once g c = λ name macros plugins is. absurd (none_some _ (sym c.in_default.ensures.none ∙ is))
+
+pub returns-clause-links_serve : goal.returns-clause-links_serve
+returns-clause-links_serve g c = λ name macros plugins is ok.
+    let done = c.run_named.ensures.expanded name macros plugins (sym c.in-Some.ensures.some ∙ is) ok in links_serve c.only_last_keys_fail.ensures _ _ _ _ _ (processes_serve _ _ _ _ _ done.expands.asks)
 
 pub returns-in_default-clause-links_serve : goal.returns-in_default-clause-links_serve
-returns-in_default-clause-links_serve g c = λ name plugins is. absurd (none_some _ (sym c.in_default.ensures.none ∙ is))
-
-pub returns-in_default-clause-kept : goal.returns-in_default-clause-kept
-returns-in_default-clause-kept g c = λ name plugins is. absurd (none_some _ (sym c.in_default.ensures.none ∙ is))
-
-pub returns-in_default-clause-status : goal.returns-in_default-clause-status
-returns-in_default-clause-status g c = λ name plugins is. absurd (none_some _ (sym c.in_default.ensures.none ∙ is))
+returns-in_default-clause-links_serve g c = λ name macros plugins is. absurd (none_some _ (sym c.in_default.ensures.none ∙ is))
 
 pub returns-clause-started : goal.returns-clause-started
-returns-clause-started g c = λ name plugins is ok.
-    let done = c.run_words.ensures.expanded name plugins (sym c.in-Some.ensures.some ∙ is) ok in starts name plugins _ _ done.output done.expands
+returns-clause-started g c = λ name macros plugins is ok.
+    let done = c.run_named.ensures.expanded name macros plugins (sym c.in-Some.ensures.some ∙ is) ok in record { links = runs_give_links _ _ _ _ _ done.expands.asks; commands = runs_start_as_wanted _ _ _ _ _ done.expands.asks }
 
 pub returns-in_default-clause-started : goal.returns-in_default-clause-started
-returns-in_default-clause-started g c = λ name plugins is. absurd (none_some _ (sym c.in_default.ensures.none ∙ is))
+returns-in_default-clause-started g c = λ name macros plugins is. absurd (none_some _ (sym c.in_default.ensures.none ∙ is))
 
 pub returns-clause-stops : goal.returns-clause-stops
-returns-clause-stops g c = λ name plugins is ok.
-    let done = c.run_words.ensures.expanded name plugins (sym c.in-Some.ensures.some ∙ is) ok in stops_have_cause name plugins _ _ done.output done.expands
+returns-clause-stops g c = λ name macros plugins is ok.
+    let done = c.run_named.ensures.expanded name macros plugins (sym c.in-Some.ensures.some ∙ is) ok in stops_have_causes _ _ _ _ _ done.expands.asks
 
 pub returns-in_default-clause-stops : goal.returns-in_default-clause-stops
-returns-in_default-clause-stops g c = λ name plugins is. absurd (none_some _ (sym c.in_default.ensures.none ∙ is))
+returns-in_default-clause-stops g c = λ name macros plugins is. absurd (none_some _ (sym c.in_default.ensures.none ∙ is))
 
 pub returns-clause-failed_starts : goal.returns-clause-failed_starts
-returns-clause-failed_starts g c = λ name plugins is ok.
-    let done = c.run_words.ensures.expanded name plugins (sym c.in-Some.ensures.some ∙ is) ok in failed_starts_have_cause name plugins _ _ done.output done.expands
+returns-clause-failed_starts g c = λ name macros plugins is ok.
+    let done = c.run_named.ensures.expanded name macros plugins (sym c.in-Some.ensures.some ∙ is) ok in failed_starts_have_causes _ _ _ _ _ done.expands.asks
 
 pub returns-in_default-clause-failed_starts : goal.returns-in_default-clause-failed_starts
-returns-in_default-clause-failed_starts g c = λ name plugins is. absurd (none_some _ (sym c.in_default.ensures.none ∙ is))
+returns-in_default-clause-failed_starts g c = λ name macros plugins is. absurd (none_some _ (sym c.in_default.ensures.none ∙ is))
+
+pub returns-clause-kept : goal.returns-clause-kept
+returns-clause-kept g c = λ name macros plugins is ok.
+    let done = c.run_named.ensures.expanded name macros plugins (sym c.in-Some.ensures.some ∙ is) ok in keeps_bytes macros name plugins _ _ done.output _ _ _ _ _ _ _ done.reads done.expands done.delivered
+
+pub returns-in_default-clause-kept : goal.returns-in_default-clause-kept
+returns-in_default-clause-kept g c = λ name macros plugins is. absurd (none_some _ (sym c.in_default.ensures.none ∙ is))
+
+pub returns-clause-status : goal.returns-clause-status
+returns-clause-status g c = λ name macros plugins is ok.
+    let done = c.run_named.ensures.expanded name macros plugins (sym c.in-Some.ensures.some ∙ is) ok in status_has_cause macros name plugins _ _ done.output _ _ _ _ _ _ _ done.reads done.expands done.delivered
+
+pub returns-in_default-clause-status : goal.returns-in_default-clause-status
+returns-in_default-clause-status g c = λ name macros plugins is. absurd (none_some _ (sym c.in_default.ensures.none ∙ is))
+
