@@ -2,6 +2,7 @@ mod Accepted
 mod Boundaries
 mod Chains
 mod Cutting
+mod Declaring
 mod Entries
 mod Faulty
 mod Freshness

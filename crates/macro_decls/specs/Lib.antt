@@ -6,3 +6,4 @@ pub mod Roles
 pub mod Faults
 pub mod Macros
 pub mod Tables
+pub mod Laws

@@ -8,12 +8,14 @@ mod arguments;
 mod elements;
 mod external;
 mod fault;
+mod laws;
 mod roles;
 mod rules;
 mod table;
 mod written;
 
 pub use fault::{MacroFault, MacroKind};
+pub use laws::every_macro_is_declared;
 pub use table::{MacroDecl, MacroTable, RoleDecl};
 
 #[cfg(test)]
