@@ -99,8 +99,7 @@ fn close_group(
     if !closes(text, left, right) {
         return Err(refusal_at(right, GroupKind::Mismatched));
     }
-    let mut inner = mem::replace(&mut grouping.here, before);
-    inner.shrink_to_fit();
+    let inner = mem::replace(&mut grouping.here, before);
     grouping.here.push(nest_of(left, inner, right))?;
     Ok(())
 }
