@@ -1,11 +1,10 @@
 -- Where tokens begin and end, and what lies between such places.
-use Rattle.std.proofs.Common.{◌≡◌, inl, inr, refl, sym, ap, subst, arith, ◌∙◌, ℕ, zero, suc, ◌+◌, ◌-◌, ◌<◌, ◌≤◌, List, [], ◌∷◌, ◌++◌, length, take, drop, slice_range, Bool, true, false, if◌then◌else◌}
+use Rattle.std.proofs.Common.{◌≡◌, inl, inr, sym, ap, subst, arith, ◌∙◌, ℕ, ◌+◌, ◌-◌, ◌<◌, List, [], ◌∷◌, take, drop, slice_range}
 use Rattle.std.specs.Prelude.{min, slice_index}
 use Rattle.std.specs.Str.{IsCharBoundary, IsUtf8, encode_utf8_all}
-use Rattle.std.proofs.lemmas.Bool.{cases_lt, eqb-true}
-use Rattle.std.proofs.lemmas.List.{drop-drop, drop-take, get_or-drop, get_or-take, get_or_push, length-append, length-drop, length-take, take-take}
-use Rattle.std.proofs.lemmas.Str.{IsCharBoundary-after_ascii, IsCharBoundary-before_ascii, IsUtf8-between, IsUtf8-nil, byte_from_char, encode_ascii, encodes-append}
-use Rattle.swift_lexer.specs.declared.chars.TheConstants.{POUND}
+use Rattle.std.proofs.lemmas.Bool.{cases_lt}
+use Rattle.std.proofs.lemmas.List.{get_or-drop, get_or-take}
+use Rattle.std.proofs.lemmas.Str.{IsCharBoundary-after_ascii, IsUtf8-between, IsUtf8-nil, byte_from_char}
 use Rattle.swift_lexer.specs.declared.token.Class.TheVariants as class
 use Rattle.swift_lexer.specs.declared.token.Token.{Token}
 use Rattle.swift_lexer.specs.Spellings.{Spells}

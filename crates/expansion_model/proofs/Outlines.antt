@@ -1,9 +1,9 @@
 -- The equations of declarations and their blocks.
-use Rattle.std.proofs.Common.{◌≡◌, Option, Some, None, List, option_map, refl, ap, ◌∙◌}
+use Rattle.std.proofs.Common.{◌≡◌, Option, Some, None, option_map, refl, ap, ◌∙◌}
 use Rattle.swift_tree.specs.declared.item.Block.TheOpen.{Item-F}
 use Rattle.swift_tree.specs.declared.item.Block.{Block, out-Block, fold_out-Block}
 use Rattle.swift_tree.specs.declared.item.Item.{Item, out-Item, map-Item, fold_out-Item}
-use Rattle.swift_tree.specs.Outlines.{Head, ItemSeen, item, BlockSeen, block, block_from, block_step, item_step, block_of, item_of, items_of}
+use Rattle.swift_tree.specs.Outlines.{ItemSeen, item, BlockSeen, block, block_from, block_step, item_step, block_of, item_of, items_of}
 use Rattle.expansion_model.specs.Attributes.{head_of}
 
 mapped : Item-F Block Item → Item-F BlockSeen ItemSeen

@@ -1,5 +1,5 @@
 -- The sites of a declaration, by its parts.
-use Rattle.std.proofs.Common.{◌≡◌, ℕ, ◌+◌, Option, Some, None, List, [], ◌∷◌, ◌++◌, map, not, Bool, true, false, option_map, append_assoc, append-nil, refl, sym, ap, ap₂, ◌∙◌}
+use Rattle.std.proofs.Common.{◌≡◌, ℕ, Option, Some, None, List, [], ◌++◌, not, option_map, append_assoc, append-nil, refl, sym, ap, ap₂, ◌∙◌}
 use Rattle.swift_base.specs.declared.plugins.Plugin.{Plugin}
 use Rattle.swift_tree.specs.declared.item.Block.{Block, out-Block}
 use Rattle.swift_tree.specs.declared.item.BlockShape.{BlockShape}

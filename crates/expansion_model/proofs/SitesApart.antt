@@ -1,5 +1,5 @@
 -- What is replaced at the sites of an accepted source lies in its text, and apart.
-use Rattle.std.proofs.Common.{◌≡◌, ◌∙◌, ap, refl, sym, subst, arith, ℕ, zero, suc, ◌+◌, ◌-◌, ◌<◌, ◌≤◌, ◌⊎◌, inl, inr, List, [], ◌∷◌, ◌++◌, append-nil, length, map, take, drop, replicate, Option, Some, None, Ok, Bool, true, false, if◌then◌else◌}
+use Rattle.std.proofs.Common.{◌≡◌, ◌∙◌, ap, refl, sym, subst, arith, ℕ, zero, suc, ◌+◌, ◌-◌, ◌<◌, ◌≤◌, ◌⊎◌, inl, inr, List, [], ◌∷◌, ◌++◌, append-nil, length, map, take, drop, replicate, Option, Some, None, Bool, true, false, if◌then◌else◌}
 use Rattle.std.specs.List.{All, AllByRecursion, flat_map}
 use Rattle.std.proofs.lemmas.Grind.{flat_map-append}
 use Rattle.std.proofs.lemmas.List.Elements.{All-from_recursion, recursion_from_All}
@@ -8,10 +8,10 @@ use Rattle.swift_base.specs.declared.plugins.Plugin.{Plugin}
 use Rattle.swift_tree.specs.declared.item.Attr.{Attr}
 use Rattle.swift_tree.specs.declared.item.BlockShape.TheVariants as block_shape
 use Rattle.swift_tree.specs.declared.item.MacroUse.{MacroUse}
-use Rattle.swift_tree.specs.Outlines.{Head, ItemSeen, item, BlockSeen, no_block, block, ItemsSeen, none, cons, OutlineSeen}
+use Rattle.swift_tree.specs.Outlines.{Head, ItemSeen, item, BlockSeen, no_block, block, ItemsSeen, none, cons}
 use Rattle.unique_names.specs.declared.role.Role.{Role}
 use Rattle.unique_names.specs.declared.role.Role.TheVariants as role
-use Rattle.decl_parser.specs.Nesting.{AllApart, Apart, AttrLies, AttrsLie, Between, BlockLies, HeadLies, ItemLies, ItemsLie, UseLies, UsesLie, after_of}
+use Rattle.decl_parser.specs.Nesting.{AllApart, Apart, AttrLies, AttrsLie, Between, BlockLies, HeadLies, ItemLies, ItemsLie, UsesLie, after_of}
 use Rattle.decl_parser.proofs.LevelsInOrder.{spans_in_order}
 use Rattle.macro_decls.specs.declared.table.MacroDecl.{MacroDecl}
 use Rattle.macro_decls.specs.Macros.{declaration_named}
@@ -19,7 +19,7 @@ use Rattle.expansion_model.specs.Macros.{text_at, macro_of, has_plugin, has_role
 use Rattle.expansion_model.specs.Uses.{fault_at, request_at, served_use, use_of_macro, use_site}
 use Rattle.expansion_model.specs.Attributes.{Carrier, asks_role, attribute_by, attribute_fault, attribute_sites, macro_site, role_requests, role_sites}
 use Rattle.expansion_model.specs.Sites.{before_use, block_sites, carrier_of, item_sites, items_sites, local_by, local_sites, members_in, own_sites, role_at, sites_before, sites_behind, sites_of}
-use Rattle.expansion_model.specs.Spans.{AreApart, LieApart, SitesLieApart, span_of, spans_of}
+use Rattle.expansion_model.specs.Spans.{AreApart, SitesLieApart, span_of, spans_of}
 use Rattle.expansion_model.specs.declared.site.Site.{Site}
 use Rattle.expansion_model.specs.declared.site.Site.TheVariants as site
 use Rattle.expansion_model.specs.declared.site.SiteKind.{SiteKind}
@@ -278,7 +278,7 @@ module _ (text : List ℕ) (macros : List MacroDecl) (plugins : List Plugin) whe
       let accessor = role_sites text macros plugins carrier role.Accessor 1 in
       let given = role_sites text macros plugins carrier role.MemberAttribute members in
       let same : spans_of (given ++ (accessor ++ own)) ≡ spans_of own =
-        past_silent given (accessor ++ own) (silent_role carrier role.MemberAttribute members) ∙ past_silent accessor own (silent_role carrier role.Accessor 1) in
+      past_silent given (accessor ++ own) (silent_role carrier role.MemberAttribute members) ∙ past_silent accessor own (silent_role carrier role.Accessor 1) in
       let across = across_own carrier from to (role_at head.kind) head.attrs head.uses head.locals attributes (recursion_from_All (λ (attribute : Attr). All (λ (macro_use : MacroUse). Apart attribute.span macro_use.span) head.uses) head.attrs apart) in
       sites_append from to (at_attributes carrier head.attrs) (given ++ (accessor ++ own)) (subst (Across (spans_of (at_attributes carrier head.attrs))) (sym same) across)
       (attributes_lie carrier from to head.attrs attributes) (subst (Lie from to) (sym same) (own_lie from to (role_at head.kind) head.uses head.locals uses))
@@ -288,7 +288,7 @@ module _ (text : List ℕ) (macros : List MacroDecl) (plugins : List Plugin) whe
   closed from to sites inner carrier lies =
       let behind = sites_behind text macros plugins carrier in
       let same : spans_of (sites ++ (inner ++ behind)) ≡ spans_of (sites ++ inner) =
-        spans_append sites (inner ++ behind) ∙ ap (λ (spans : List Span). spans_of sites ++ spans) (spans_append inner behind ∙ ap (λ (spans : List Span). spans_of inner ++ spans) (silent_behind carrier) ∙ append-nil (spans_of inner)) ∙ sym (spans_append sites inner) in
+      spans_append sites (inner ++ behind) ∙ ap (λ (spans : List Span). spans_of sites ++ spans) (spans_append inner behind ∙ ap (λ (spans : List Span). spans_of inner ++ spans) (silent_behind carrier) ∙ append-nil (spans_of inner)) ∙ sym (spans_append sites inner) in
       subst (Lie from to) (sym same) lies
 
   -- a declaration without members
@@ -303,9 +303,12 @@ module _ (text : List ℕ) (macros : List MacroDecl) (plugins : List Plugin) whe
         let own = lies.0 in
         let carrier = carrier_of head braces in
         let fore = sites_before text macros plugins carrier (members_in braces) in
-        let inner = block_sites text macros plugins braces in
-        (omega (arith, own.begins, own.some, own.behind), own.ends, lie_wider from head.span.start head.span.end head.after (spans_of (fore ++ (inner ++ sites_behind text macros plugins carrier))) own.begins own.behind
-        (closed head.span.start head.span.end fore inner carrier (block_lies from to head braces own lies.1)))
+        let inner = block_sites text macros plugins braces in (
+          omega (arith, own.begins, own.some, own.behind),
+          own.ends,
+          lie_wider from head.span.start head.span.end head.after (spans_of (fore ++ (inner ++ sites_behind text macros plugins carrier))) own.begins own.behind
+              (closed head.span.start head.span.end fore inner carrier (block_lies from to head braces own lies.1)),
+        )
 
     block_lies : (from to : ℕ) (head : Head) (braces : BlockSeen) → HeadLies from to head → BlockLies head.span head.attrs head.uses braces
         → SitesLie head.span.start head.span.end (sites_before text macros plugins (carrier_of head braces) (members_in braces) ++ block_sites text macros plugins braces)

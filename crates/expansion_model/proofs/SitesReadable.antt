@@ -1,8 +1,8 @@
 -- The texts that are given at the sites of an accepted source are UTF-8.
-use Rattle.std.proofs.Common.{◌≡◌, sym, subst, ℕ, zero, suc, List, [], ◌∷◌, ◌++◌, map, take, drop, replicate, Option, Some, None, Ok, Bool, true, false, cond, if◌then◌else◌}
+use Rattle.std.proofs.Common.{◌≡◌, sym, ℕ, zero, suc, List, [], ◌∷◌, map, take, drop, replicate, Option, Some, None, Ok, Bool, true, false, cond, if◌then◌else◌}
 use Rattle.std.specs.Prelude.{IfSome, find}
 use Rattle.std.specs.List.{All, AllByRecursion, flat_map}
-use Rattle.std.specs.Str.{IsUtf8, bytes_eq}
+use Rattle.std.specs.Str.{bytes_eq}
 use Rattle.std.proofs.lemmas.List.Elements.{All-from_recursion, recursion_from_All}
 use Rattle.swift_base.specs.declared.plugins.Plugin.{Plugin}
 use Rattle.swift_lexer.specs.Trees.{Forest, forest_tokens}
@@ -10,7 +10,7 @@ use Rattle.swift_tree.specs.declared.item.Attr.{Attr}
 use Rattle.swift_tree.specs.declared.item.BlockShape.TheVariants as block_shape
 use Rattle.swift_tree.specs.declared.item.MacroUse.{MacroUse}
 use Rattle.swift_tree.specs.declared.outline.Shape.TheVariants as shape
-use Rattle.swift_tree.specs.Outlines.{Head, ItemSeen, item, BlockSeen, no_block, block, ItemsSeen, none, cons, OutlineSeen}
+use Rattle.swift_tree.specs.Outlines.{ItemSeen, item, BlockSeen, no_block, block, ItemsSeen, none, cons, OutlineSeen}
 use Rattle.unique_names.specs.declared.role.Role.{Role}
 use Rattle.unique_names.specs.declared.role.Role.TheVariants as role
 use Rattle.decl_parser.specs.declared.place.Place.TheVariants as place

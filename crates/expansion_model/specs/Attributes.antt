@@ -14,7 +14,7 @@ use Rattle.unique_names.specs.declared.role.Role.{Role}
 use Rattle.unique_names.specs.declared.role.Role.TheVariants as role
 use Rattle.macro_decls.specs.declared.table.MacroDecl.{MacroDecl}
 use Rattle.macro_decls.specs.declared.table.RoleDecl.{RoleDecl}
-use Rattle.expansion_model.specs.Macros.{text_at, macro_of, has_plugin, fits, role_eq}
+use Rattle.expansion_model.specs.Macros.{macro_of, has_plugin, fits, role_eq}
 use Rattle.expansion_model.specs.Uses.{fault_at, use_site}
 use Rattle.expansion_model.specs.declared.site.Site.{Site}
 use Rattle.expansion_model.specs.declared.site.Site.TheVariants as site

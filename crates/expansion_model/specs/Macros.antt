@@ -1,5 +1,5 @@
 -- What a declared macro may do at a place: the table of roles and kinds, after SE-0382, SE-0389 and SE-0397.
-use Rattle.std.specs.Prelude.{ℕ, ◌||◌, Bool, true, false, if◌then◌else◌, Option, Some, None, List, find, slice_range, is_some}
+use Rattle.std.specs.Prelude.{ℕ, Bool, true, false, if◌then◌else◌, Option, None, List, find, slice_range, is_some}
 use Rattle.std.specs.List.{list_any}
 use Rattle.std.specs.Str.{bytes_eq}
 use Rattle.swift_base.specs.declared.place.Span.{Span}

@@ -1,5 +1,5 @@
 -- The texts that a plug-in is given: this project's own words.
-use Rattle.std.specs.Prelude.{ℕ, List, All, Ok}
+use Rattle.std.specs.Prelude.{ℕ, List, Ok}
 use Rattle.std.specs.Str.{IsUtf8}
 use Rattle.swift_tree.specs.declared.outline.Shape.TheVariants.{File}
 use Rattle.swift_tree.specs.Outlines.{OutlineSeen}

@@ -1,5 +1,5 @@
 -- What is asked at a site. After SE-0382; the syntaxes are swift-syntax's.
-use Rattle.std.specs.Prelude.{◌≡◌, ℕ, ◌==◌, if◌then◌else◌, List, [], ◌∷◌, ◌++◌, take, codes, Option, Some, None}
+use Rattle.std.specs.Prelude.{◌≡◌, ℕ, ◌==◌, if◌then◌else◌, List, [], ◌∷◌, ◌++◌, take, codes, Some}
 use Rattle.std.specs.List.{list_any, flat_map}
 use Rattle.std.specs.Str.Lossy.{utf8_lossy}
 use Rattle.swift_base.specs.Lines.{line_behind, column_behind}

@@ -1,5 +1,5 @@
 -- The sites of a source, in the order of their visits: this project's own, after SE-0382, SE-0389, SE-0397 and SE-0402.
-use Rattle.std.specs.Prelude.{ℕ, suc, ◌+◌, not, nat_lt, Bool, true, false, if◌then◌else◌, Option, Some, None, List, [], ◌∷◌, ◌++◌, map, take, drop}
+use Rattle.std.specs.Prelude.{ℕ, suc, ◌+◌, not, nat_lt, Bool, true, false, if◌then◌else◌, Option, Some, None, List, [], ◌∷◌, ◌++◌, take, drop}
 use Rattle.std.specs.List.{flat_map}
 use Rattle.swift_base.specs.declared.plugins.Plugin.{Plugin}
 use Rattle.swift_tree.specs.declared.item.Kind.{Kind}

@@ -1,5 +1,5 @@
 -- What stands at a macro use. After SE-0382 and SE-0397.
-use Rattle.std.specs.Prelude.{ℕ, Bool, true, false, if◌then◌else◌, Option, Some, None, List}
+use Rattle.std.specs.Prelude.{ℕ, if◌then◌else◌, Option, Some, None, List}
 use Rattle.swift_base.specs.declared.plugins.Plugin.{Plugin}
 use Rattle.swift_tree.specs.declared.item.MacroUse.{MacroUse}
 use Rattle.unique_names.specs.declared.role.Role.{Role}
@@ -8,7 +8,6 @@ use Rattle.plugin_messages.specs.declared.request.MacroRef.{MacroRef}
 use Rattle.macro_decls.specs.declared.table.MacroDecl.{MacroDecl}
 use Rattle.macro_decls.specs.Macros.{declaration_named}
 use Rattle.expansion_model.specs.Macros.{text_at, has_plugin, has_role}
-use Rattle.expansion_model.specs.declared.site.Ask.{Ask}
 use Rattle.expansion_model.specs.declared.site.Site.{Site}
 use Rattle.expansion_model.specs.declared.site.Site.TheVariants as site
 use Rattle.expansion_model.specs.declared.site.SiteKind.{SiteKind}

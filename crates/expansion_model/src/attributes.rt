@@ -79,12 +79,7 @@ fn fitting_fault(
 }
 
 /// A role that doesn't fit isn't asked, and has no fault of its own.
-fn role_fault(
-    plugins: &[Plugin],
-    item: &Item,
-    declared: &MacroDecl,
-    own: Role,
-) -> Option<SiteKind>
+fn role_fault(plugins: &[Plugin], item: &Item, declared: &MacroDecl, own: Role) -> Option<SiteKind>
     ensures { result ≡ role_fault plugins.now (carrier item.now) declared.now own }
 {
     if !fits(own, item.kind) {
@@ -224,12 +219,7 @@ fn asks_macro(plugins: &[Plugin], item: &Item, wanted: Role, declared: &MacroDec
         && fitting_fault(plugins, item, declared, wanted).is_none()
 }
 
-fn asks_role(
-    plugins: &[Plugin],
-    item: &Item,
-    wanted: Role,
-    declared: Option<&MacroDecl>,
-) -> bool
+fn asks_role(plugins: &[Plugin], item: &Item, wanted: Role, declared: Option<&MacroDecl>) -> bool
     ensures { result ≡ asks_role plugins.now (carrier item.now) wanted (option_copied declared.entry) }
 {
     match declared {

@@ -9,11 +9,7 @@ use swift_tree::{Attr, Kind};
 use unique_names::Role;
 
 /// The macro that an attribute names.
-pub fn macro_of<'a>(
-    macros: &'a MacroTable,
-    text: &[u8],
-    attribute: &Attr,
-) -> Option<&'a MacroDecl>
+pub fn macro_of<'a>(macros: &'a MacroTable, text: &[u8], attribute: &Attr) -> Option<&'a MacroDecl>
     ensures { option_copied result ≡ macro_of macros.now text.now attribute.now }
 {
     if attribute.dotted {
@@ -51,10 +47,7 @@ pub fn has_role(wanted: Role, declared: &MacroDecl) -> bool
 fn is_own_type(kind: Kind) -> bool
     ensures { result ≡ is_own_type kind }
 {
-    matches!(
-        kind,
-        Kind::Struct | Kind::Class | Kind::Enum | Kind::Actor
-    )
+    matches!(kind, Kind::Struct | Kind::Class | Kind::Enum | Kind::Actor)
 }
 
 fn has_members(kind: Kind) -> bool

@@ -48,9 +48,20 @@ fn put_site(alloc: Global, line: &mut String, site: &Site) -> Result<(), Fail> {
         Site::Asks(ask) => {
             let target = &ask.target;
             let (module, type_name) = (str_of(&target.module), str_of(&target.type_name));
-            write!(line, " {} asks {}={module}.{type_name}", ask.macro_use.span.start, str_of(&target.name))?
+            write!(
+                line,
+                " {} asks {}={module}.{type_name}",
+                ask.macro_use.span.start,
+                str_of(&target.name)
+            )?
         }
-        Site::Fault(fault) => write!(line, " {} {:?} {}", fault.at, fault.kind, str_of(&fault.name))?,
+        Site::Fault(fault) => write!(
+            line,
+            " {} {:?} {}",
+            fault.at,
+            fault.kind,
+            str_of(&fault.name)
+        )?,
         Site::NotBuilt(at) => write!(line, " {at} request")?,
         Site::Attribute(span) => write!(line, " {}-{}", span.start, span.end)?,
     }
@@ -78,15 +89,27 @@ const FAULTS: [(&str, &str); 18] = [
     ("@Stored func f() {}", " 0 WrongRole Stored;"),
     ("@Stored let a = 1", " 0 WrongRole Stored;"),
     ("@outer(1) func f() {}", " 0 WrongRole outer;"),
-    ("@Given enum E {}; @Given func f() {}", " 0-6; 18 WrongRole Given;"),
+    (
+        "@Given enum E {}; @Given func f() {}",
+        " 0-6; 18 WrongRole Given;",
+    ),
     ("@Peered import A", " 0 WrongRole Peered;"),
     ("@Stored var a = 1, b = 2", " 0 NotOneBinding Stored;"),
     ("@Stored var (a, b) = (1, 2)", " 0 NotOneBinding Stored;"),
     ("@Stored var a: Int { 1 }", " 0 AccessorOnBody Stored;"),
-    ("@Both var a: Int { 1 }", " 0 AccessorOnBody Both; 0 request;"),
+    (
+        "@Both var a: Int { 1 }",
+        " 0 AccessorOnBody Both; 0 request;",
+    ),
     ("@Lost func f() {}", " 0 NoPlugin N;"),
-    ("func f() { @Peered var x = 1 }", " 11 LocalAttached Peered;"),
-    ("func f() { @Lost(#inner(1)) var x = 1 }", " 11 LocalAttached Lost; 17 asks inner=M.Inner;"),
+    (
+        "func f() { @Peered var x = 1 }",
+        " 11 LocalAttached Peered;",
+    ),
+    (
+        "func f() { @Lost(#inner(1)) var x = 1 }",
+        " 11 LocalAttached Lost; 17 asks inner=M.Inner;",
+    ),
 ];
 
 #[test]
@@ -104,9 +127,15 @@ const TEXTS: [(&str, &str); 8] = [
     ("@other(#inner(1)) func f() {}", " 7 asks inner=M.Inner;"),
     ("@other func f() {}", ""),
     ("@M.Peered func f() {}", ""),
-    ("@M.Peered(#inner(1)) func f() {}", " 10 asks inner=M.Inner;"),
+    (
+        "@M.Peered(#inner(1)) func f() {}",
+        " 10 asks inner=M.Inner;",
+    ),
     ("func f() { @M.Peered var x = 1 }", ""),
-    ("func f() { @other(#inner(1)) var x = 1 }", " 18 asks inner=M.Inner;"),
+    (
+        "func f() { @other(#inner(1)) var x = 1 }",
+        " 18 asks inner=M.Inner;",
+    ),
 ];
 
 #[test]

@@ -157,10 +157,27 @@ fn put_before(
 {
     let members = members_of(item);
     put_attributes(alloc, text, macros, plugins, item, sites)?;
-    put_role(text, macros, plugins, item, Role::MemberAttribute, members, sites)?;
+    put_role(
+        text,
+        macros,
+        plugins,
+        item,
+        Role::MemberAttribute,
+        members,
+        sites,
+    )?;
     put_role(text, macros, plugins, item, Role::Accessor, 1, sites)?;
     let (uses, locals) = (item.uses.items(), item.locals.items());
-    put_own(alloc, text, macros, plugins, role_at(item.kind), uses, locals, sites)
+    put_own(
+        alloc,
+        text,
+        macros,
+        plugins,
+        role_at(item.kind),
+        uses,
+        locals,
+        sites,
+    )
 }
 
 /// What is visited of it behind them.
@@ -257,7 +274,14 @@ fn visited(
 {
     let mut sites = Vec::new(alloc);
     let text = source.text.bytes();
-    put_items(alloc, text, macros, plugins.list(), &source.items, &mut sites)?;
+    put_items(
+        alloc,
+        text,
+        macros,
+        plugins.list(),
+        &source.items,
+        &mut sites,
+    )?;
     Ok(sites)
 }
 

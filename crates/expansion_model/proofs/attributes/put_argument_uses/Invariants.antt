@@ -1,4 +1,4 @@
-use Rattle.std.proofs.Common.{◌≡◌, ◌++◌, ◌+◌, drop, map, replicate, length}
+use Rattle.std.proofs.Common.{◌≡◌, ◌++◌, drop, map}
 use Rattle.unique_names.specs.declared.role.Role.TheVariants as role
 use Rattle.expansion_model.specs.Uses.{use_site}
 use Rattle.expansion_model.proofs.attributes.put_argument_uses.Given as goal

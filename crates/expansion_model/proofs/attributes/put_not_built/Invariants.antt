@@ -1,4 +1,4 @@
-use Rattle.std.proofs.Common.{◌≡◌, ◌++◌, ◌+◌, drop, map, replicate, length}
+use Rattle.std.proofs.Common.{◌≡◌, ◌++◌, replicate}
 use Rattle.expansion_model.specs.declared.site.Site.TheVariants as site
 use Rattle.expansion_model.proofs.attributes.put_not_built.Given as goal
 

@@ -1,4 +1,4 @@
-use Rattle.std.proofs.Common.{◌≡◌, ◌++◌, ◌+◌, drop, map, replicate, length}
+use Rattle.std.proofs.Common.{◌≡◌, ◌++◌, drop}
 use Rattle.std.specs.List.{flat_map}
 use Rattle.expansion_model.specs.Attributes.{carrier, role_requests}
 use Rattle.expansion_model.proofs.attributes.put_role.Given as goal

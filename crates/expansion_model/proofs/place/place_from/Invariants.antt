@@ -1,4 +1,4 @@
-use Rattle.std.proofs.Common.{◌≡◌, ◌≤◌, take, length, ◌-◌}
+use Rattle.std.proofs.Common.{◌≡◌, ◌≤◌, take, ◌-◌}
 use Rattle.swift_base.specs.Lines.{line_behind, column_behind}
 use Rattle.expansion_model.proofs.place.place_from.Given as goal
 

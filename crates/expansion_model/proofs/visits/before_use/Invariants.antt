@@ -1,4 +1,4 @@
-use Rattle.std.proofs.Common.{◌≡◌, ◌++◌, ◌+◌, ◌≤◌, drop, map, replicate, length}
+use Rattle.std.proofs.Common.{◌≡◌, ◌+◌, ◌≤◌, drop}
 use Rattle.expansion_model.specs.Sites.{before_use}
 use Rattle.expansion_model.proofs.visits.before_use.Given as goal
 

@@ -1,4 +1,4 @@
-use Rattle.std.proofs.Common.{◌≡◌, ◌++◌, ◌+◌, ◌≤◌, drop, map, replicate, length}
+use Rattle.std.proofs.Common.{◌≡◌, ◌+◌, ◌≤◌, drop}
 use Rattle.swift_tree.specs.Outlines.{items_of}
 use Rattle.expansion_model.specs.Sites.{count_members}
 use Rattle.expansion_model.proofs.visits.count_members.Given as goal

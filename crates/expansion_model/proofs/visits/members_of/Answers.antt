@@ -1,4 +1,4 @@
-use Rattle.std.proofs.Common.{sym, ap, ◌∙◌}
+use Rattle.std.proofs.Common.{sym, ◌∙◌}
 use Rattle.expansion_model.proofs.Parts.{members_is-none, members_is-some}
 use Rattle.expansion_model.proofs.visits.members_of.Goals as goal
 

@@ -1,4 +1,4 @@
-use Rattle.std.proofs.Common.{◌≡◌, ◌++◌, ◌+◌, drop, map, replicate, length}
+use Rattle.std.proofs.Common.{◌≡◌, ◌++◌, drop}
 use Rattle.expansion_model.specs.Sites.{own_sites}
 use Rattle.expansion_model.proofs.visits.put_own.Given as goal
 
