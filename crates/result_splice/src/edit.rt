@@ -1,6 +1,6 @@
 // Edits of a text.
-ghost use Rattle.std.specs.Prelude.{◌≡◌, ◌++◌, IfOk, length, drop, slice_range};
-ghost use Rattle.result_splice.specs.Edits.{CanBeMade, EditsLie, IsEdited, edited};
+ghost use Rattle.std.specs.Prelude.{◌≡◌, ◌++◌, IfOk, length, slice_range};
+ghost use Rattle.result_splice.specs.Edits.{CanBeMade, IsEdited, edited};
 
 use crate::slices::{behind, between};
 use std::alloc::{AllocError, Global};

@@ -1,5 +1,5 @@
 // Edits of `abcdef`.
-ghost use Rattle.std.specs.Prelude.{◌≡◌, ◌×◌, IfOk};
+ghost use Rattle.std.specs.Prelude.{◌≡◌, IfOk};
 
 use crate::{Edit, apply};
 use std::alloc::{AllocError, Global};
