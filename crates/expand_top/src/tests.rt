@@ -1,5 +1,4 @@
 use crate::{Ended, Stop, run};
-use plugin_frames::header;
 use std::alloc::{AllocError, Global};
 use std::process::Abort;
 use std::test::Fail;
@@ -7,6 +6,19 @@ use swift_base::{Listed, MemFiles, MemScript, MemSink, MemSource, MemStarter, Si
 
 const DECLARATION: &str =
     "@freestanding(expression) macro stringify<T>(_ value: T) -> (T, String) = #externalMacro(module: \"SampleMacros\", type: \"StringifyMacro\")\n";
+
+/// A file of macros. Module `N` has no plug-in.
+const MACROS: &str = "\
+@freestanding(expression) macro p(_ x: Int) -> Int = #externalMacro(module: \"A\", type: \"P\")
+@freestanding(expression) macro outer(_ x: Int) -> Int = #externalMacro(module: \"A\", type: \"Outer\")
+@freestanding(expression) macro inner(_ x: Int) -> Int = #externalMacro(module: \"A\", type: \"Inner\")
+@freestanding(expression) macro absent() -> Int = #externalMacro(module: \"N\", type: \"Absent\")
+@freestanding(declaration) macro made() = #externalMacro(module: \"A\", type: \"Made\")
+@attached(peer) macro Peered() = #externalMacro(module: \"A\", type: \"Peered\")
+@attached(accessor) macro Stored() = #externalMacro(module: \"A\", type: \"Stored\")
+@attached(memberAttribute) macro Given() = #externalMacro(module: \"A\", type: \"Given\")
+@attached(member) @attached(extension) @attached(memberAttribute) macro Many() = #externalMacro(module: \"A\", type: \"Many\")
+";
 
 const GREETED: &str =
     "<\0\0\0\0\0\0\0{\"getCapabilityResult\":{\"capability\":{\"protocolVersion\":7}}}";
@@ -20,9 +32,28 @@ const GREETING: &str =
 const REQUEST: &str =
     "?\u{1}\0\0\0\0\0\0{\"expandFreestandingMacro\":{\"discriminator\":\"$sX145e0_E\",\"macro\":{\"moduleName\":\"SampleMacros\",\"name\":\"stringify\",\"typeName\":\"StringifyMacro\"},\"macroRole\":\"expression\",\"syntax\":{\"kind\":\"expression\",\"location\":{\"column\":9,\"fileID\":\"main/r.swift\",\"fileName\":\"r.swift\",\"line\":2,\"offset\":145},\"source\":\"#stringify(a + b)\"}}}";
 
+/// Of `#p(1)` and of `#p(2)` in `TWO_USES`.
+const FIRST_REQUEST: &str =
+    "\u{f}\u{1}\0\0\0\0\0\0{\"expandFreestandingMacro\":{\"discriminator\":\"$sX8e0_E\",\"macro\":{\"moduleName\":\"A\",\"name\":\"p\",\"typeName\":\"P\"},\"macroRole\":\"expression\",\"syntax\":{\"kind\":\"expression\",\"location\":{\"column\":9,\"fileID\":\"main/r.swift\",\"fileName\":\"r.swift\",\"line\":1,\"offset\":8},\"source\":\"#p(1)\"}}}";
+
+const SECOND_REQUEST: &str =
+    "\u{11}\u{1}\0\0\0\0\0\0{\"expandFreestandingMacro\":{\"discriminator\":\"$sX22e0_E\",\"macro\":{\"moduleName\":\"A\",\"name\":\"p\",\"typeName\":\"P\"},\"macroRole\":\"expression\",\"syntax\":{\"kind\":\"expression\",\"location\":{\"column\":9,\"fileID\":\"main/r.swift\",\"fileName\":\"r.swift\",\"line\":2,\"offset\":22},\"source\":\"#p(2)\"}}}";
+
+/// Of `#outer(#inner(1))` behind `let v = `.
+const NESTED_REQUEST: &str =
+    "#\u{1}\0\0\0\0\0\0{\"expandFreestandingMacro\":{\"discriminator\":\"$sX8e0_E\",\"macro\":{\"moduleName\":\"A\",\"name\":\"outer\",\"typeName\":\"Outer\"},\"macroRole\":\"expression\",\"syntax\":{\"kind\":\"expression\",\"location\":{\"column\":9,\"fileID\":\"main/r.swift\",\"fileName\":\"r.swift\",\"line\":1,\"offset\":8},\"source\":\"#outer(#inner(1))\"}}}";
+
+const TWO_USES: &str = "let a = #p(1)\nlet b = #p(2)\n";
+
+const WITH_MACROS: &str = "expand --macros m.swift r.swift A=a";
+
+/// The reads of a process that gives a greeting's answer and a reply of one letter each time.
+const ONE_FRAME_A_READ: [u32; 3] = [68, 69, 69];
+
 #[derive(Drop)]
 struct Ran {
     ended: Ended<MemSink, MemSource>,
+    files: MemFiles,
     out: MemSink,
     err: MemSink,
 }
@@ -39,40 +70,109 @@ fn joined(alloc: Global, parts: &[&str]) -> Result<String, AllocError> {
     Ok(whole)
 }
 
-// The words between spaces, the file that they name with a content, one process that gives some bytes in pieces,
-// and an `out` whose calls in `failing` fail.
-fn run_on(
+fn words_of(alloc: Global, line: &str) -> Result<Vec<String>, AllocError> {
+    let mut words = Vec::new(alloc);
+    for word in line.split_whitespace() {
+        words.push(String::from_str(alloc, word)?)?;
+    }
+    Ok(words)
+}
+
+fn files_of(alloc: Global, files: &[(&str, &str)]) -> Result<MemFiles, AllocError> {
+    let mut contents = Vec::new(alloc);
+    for (name, content) in files {
+        contents.push((text(alloc, name)?, text(alloc, content)?))?;
+    }
+    Ok(MemFiles::new(alloc, contents, Vec::new(alloc)))
+}
+
+// A process that gives these bytes, the first `sizes` reads so many at most.
+fn script(alloc: Global, gives: Vec<u8>, sizes: &[u32]) -> Result<MemScript, AllocError> {
+    Ok(MemScript {
+        gives: Text::from_vec(gives),
+        pieces: Listed::from_vec(Vec::from_slice(alloc, sizes)?),
+        failing_reads: Listed::from_vec(Vec::new(alloc)),
+        failing_writes: Listed::from_vec(Vec::new(alloc)),
+        room: 4096,
+    })
+}
+
+fn one_script(
+    alloc: Global,
+    gives: Vec<u8>,
+    sizes: &[u32],
+) -> Result<Vec<MemScript>, AllocError> {
+    let mut scripts = Vec::new(alloc);
+    scripts.push(script(alloc, gives, sizes)?)?;
+    Ok(scripts)
+}
+
+// The words between spaces, over these files and processes, and an `out` whose calls in `failing` fail.
+fn run_failing(
     rt: HostRuntime,
     words: &str,
-    content: Option<&str>,
-    gives: Option<(&[u8], Vec<u32>)>,
+    files: &[(&str, &str)],
+    scripts: Vec<MemScript>,
     failing: Vec<u64>,
 ) -> Result<Ran, AllocError> {
     let alloc = rt.alloc();
-    let mut list = Vec::new(alloc);
-    for word in words.split_whitespace() {
-        list.push(String::from_str(alloc, word)?)?;
-    }
-    let mut contents = Vec::new(alloc);
-    if let (Some(content), Some(name)) = (content, list.get(1)) {
-        contents.push((text(alloc, name.as_str())?, text(alloc, content)?))?;
-    }
-    let mut files = MemFiles::new(alloc, contents, Vec::new(alloc));
-    let mut links = Vec::new(alloc);
-    if let Some((bytes, pieces)) = gives {
-        links.push(MemScript {
-            gives: Text::from_bytes(alloc, bytes)?,
-            pieces: Listed::from_vec(pieces),
-            failing_reads: Listed::from_vec(Vec::new(alloc)),
-            failing_writes: Listed::from_vec(Vec::new(alloc)),
-            room: 4096,
-        })?;
-    }
-    let mut starter = MemStarter::new(alloc, links, Vec::new(alloc));
+    let words = words_of(alloc, words)?;
+    let mut files = files_of(alloc, files)?;
+    let mut starter = MemStarter::new(alloc, scripts, Vec::new(alloc));
     let mut out = MemSink::new(alloc, 4096, failing)?;
     let mut err = MemSink::new(alloc, 4096, Vec::new(alloc))?;
-    let ended = run(rt, &list, &mut files, &mut out, &mut err, &mut starter);
-    Ok(Ran { ended, out, err })
+    let ended = run(rt, &words, &mut files, &mut out, &mut err, &mut starter);
+    Ok(Ran {
+        ended,
+        files,
+        out,
+        err,
+    })
+}
+
+fn run_on(
+    rt: HostRuntime,
+    words: &str,
+    files: &[(&str, &str)],
+    scripts: Vec<MemScript>,
+) -> Result<Ran, AllocError> {
+    run_failing(rt, words, files, scripts, Vec::new(rt.alloc()))
+}
+
+// No process is there to be asked.
+fn run_alone(
+    rt: HostRuntime,
+    words: &str,
+    files: &[(&str, &str)],
+) -> Result<Ran, AllocError> {
+    run_on(rt, words, files, Vec::new(rt.alloc()))
+}
+
+// The source r.swift with the file of macros.
+fn run_with_macros(
+    rt: HostRuntime,
+    content: &str,
+    scripts: Vec<MemScript>,
+) -> Result<Ran, AllocError> {
+    let files = [("m.swift", MACROS), ("r.swift", content)];
+    run_on(rt, WITH_MACROS, &files, scripts)
+}
+
+// The frame of a payload.
+fn put_frame(frames: &mut Vec<u8>, payload: &[u8]) -> Result<(), AllocError> {
+    frames.extend_from_slice(&(payload.len() as u64).to_le_bytes())?;
+    frames.extend_from_slice(payload)
+}
+
+// What a process gives that answers the greeting, and then the requests with these texts.
+fn answers(alloc: Global, replies: &[&str]) -> Result<Vec<u8>, AllocError> {
+    let before = "{\"expandMacroResult\":{\"diagnostics\":[],\"expandedSource\":\"";
+    let mut gives = Vec::from_slice(alloc, GREETED.as_bytes())?;
+    for reply in replies {
+        let payload = joined(alloc, &[before, reply, "\"}}"])?;
+        put_frame(&mut gives, payload.as_bytes())?;
+    }
+    Ok(gives)
 }
 
 fn expect(rt: &impl Abort, ran: &Ran, status: u8, out: &str, err: &str) {
@@ -81,12 +181,31 @@ fn expect(rt: &impl Abort, ran: &Ran, status: u8, out: &str, err: &str) {
     assert_eq!(rt; ran.err.held(), err.as_bytes());
 }
 
+fn expect_unasked(rt: &impl Abort, ran: &Ran) {
+    assert_eq!(rt; ran.ended.links.len(), 0);
+    assert_eq!(rt; ran.ended.unstarted.len(), 0);
+}
+
+// Lines of faults, and nothing was asked.
+fn expect_refused(rt: &impl Abort, ran: &Ran, lines: &str) {
+    expect(rt, ran, 1, "", lines);
+    expect_unasked(rt, ran);
+}
+
+// The files that were read, in order.
+fn expect_read(rt: &impl Abort, ran: &Ran, names: &[&str]) {
+    assert_eq!(rt; ran.files.names().len(), names.len());
+    for (read, name) in ran.files.names().iter().zip(names) {
+        assert_eq!(rt; read.bytes(), name.as_bytes());
+    }
+}
+
 #[test]
 fn empty_file_prints_nothing(rt: HostRuntime) -> Result<(), Fail> {
-    let none = Vec::new(rt.alloc());
-    let ran = run_on(rt, "expand r.swift", Some(""), None, none)?;
+    let ran = run_alone(rt, "expand r.swift", &[("r.swift", "")])?;
     expect(&rt, &ran, 0, "", "");
-    assert_eq!(rt; ran.ended.links.len(), 0);
+    expect_unasked(&rt, &ran);
+    expect_read(&rt, &ran, &["r.swift"]);
     Ok(())
 }
 
@@ -94,40 +213,30 @@ fn empty_file_prints_nothing(rt: HostRuntime) -> Result<(), Fail> {
 fn file_without_uses_stays(rt: HostRuntime) -> Result<(), Fail> {
     let content =
         "/* a /* b */ c */ struct S {\n  let t = #\"a \"b\" \\(x)\"#\n  let m = \"\"\"\n    \"q\" \\(f(1))\n    \"\"\"\n  var o: Int?\n  var p = a\n    ? b\n    : c\n  func f() { guard let x = y else { return } }\n}\n";
-    let ran = run_on(
-        rt,
-        "expand r.swift",
-        Some(content),
-        None,
-        Vec::new(rt.alloc()),
-    )?;
+    let ran = run_alone(rt, "expand r.swift", &[("r.swift", content)])?;
     expect(&rt, &ran, 0, content, "");
     let content =
         "/* a /* b */ c */ let t = #\"a \"b\" \\(x)\"# // d\nlet m = \"\"\"\n  \"q\" \\(f(1))\n  \"\"\"\r\nlet é = (`x`)\n@a.b public final class C<T>: D, E where T: F {\n  var x: Int { get { 1 } set { y = newValue } }\n  var z = 2 { didSet { print(z) } }; let w = [1: \"a\"]\n  init?(_ v: T) throws { self.v = v }\n  func f(a: Int) async -> Int { if a > 1 { return a }; return { $0 }(2) }\n}\nenum G { case a, b(Int) }\n";
-    let none = Vec::new(rt.alloc());
-    let ran = run_on(rt, "expand r.swift", Some(content), None, none)?;
+    let ran = run_alone(rt, "expand r.swift", &[("r.swift", content)])?;
     expect(&rt, &ran, 0, content, "");
     Ok(())
 }
 
-// The expansion of `stringify` where the process gives both frames in such pieces.
-fn exchange(rt: HostRuntime, piece: u32) -> Result<Ran, AllocError> {
+// The expansion of `stringify` where the process gives these bytes in such pieces.
+fn expand_stringify(rt: HostRuntime, gives: Vec<u8>, sizes: &[u32]) -> Result<Ran, AllocError> {
     let alloc = rt.alloc();
     let source = joined(alloc, &[DECLARATION, "let r = #stringify(a + b)\n"])?;
+    let scripts = one_script(alloc, gives, sizes)?;
+    let files = [("r.swift", source.as_str())];
+    run_on(rt, "expand r.swift SampleMacros=plug", &files, scripts)
+}
+
+// The same where it gives both frames.
+fn exchange(rt: HostRuntime, piece: u32) -> Result<Ran, AllocError> {
+    let alloc = rt.alloc();
     let gives = joined(alloc, &[GREETED, REPLIED])?;
-    let mut pieces = Vec::new(alloc);
-    for _ in 0..160 {
-        pieces.push(piece)?;
-    }
-    let words = "expand r.swift SampleMacros=plug";
-    let none = Vec::new(alloc);
-    run_on(
-        rt,
-        words,
-        Some(&source),
-        Some((gives.as_bytes(), pieces)),
-        none,
-    )
+    let sizes = Vec::from_elem(alloc, piece, 160)?;
+    expand_stringify(rt, gives.into_bytes(), &sizes)
 }
 
 fn expanded(alloc: Global) -> Result<String, AllocError> {
@@ -178,33 +287,93 @@ fn wrong_words_print_the_usage(rt: HostRuntime) -> Result<(), Fail> {
         "expand r.swift A=",
         "expand r.swift 1=x",
         "expand a.swift A=x A=y",
+        "expand --macros",
+        "expand --macros r.swift",
+        "expand --macros -m r.swift",
+        "expand --macros r.swift r.swift A",
+        "expand --macros r.swift --macros r.swift r.swift",
+        "expand r.swift --macros r.swift",
     ] {
-        let none = Vec::new(rt.alloc());
-        let ran = run_on(rt, words, Some(""), None, none)?;
+        let ran = run_alone(rt, words, &[("r.swift", "")])?;
         expect(&rt, &ran, 2, "", usage);
+        expect_read(&rt, &ran, &[]);
     }
     Ok(())
 }
 
 #[test]
 fn missing_file(rt: HostRuntime) -> Result<(), Fail> {
-    let none = Vec::new(rt.alloc());
-    let ran = run_on(rt, "expand x.swift", None, None, none)?;
+    let ran = run_alone(rt, "expand x.swift", &[])?;
     expect(&rt, &ran, 3, "", "x.swift: the file could not be read\n");
     Ok(())
 }
 
+// The file of macros is read first, and the source only where that succeeds.
+#[test]
+fn files_are_read_in_order(rt: HostRuntime) -> Result<(), Fail> {
+    let words = "expand --macros m.swift r.swift";
+    let ran = run_alone(rt, words, &[("r.swift", "let a = 1\n"), ("m.swift", MACROS)])?;
+    expect(&rt, &ran, 0, "let a = 1\n", "");
+    expect_read(&rt, &ran, &["m.swift", "r.swift"]);
+    let ran = run_alone(rt, words, &[("r.swift", "struct S {")])?;
+    expect(&rt, &ran, 3, "", "m.swift: the file could not be read\n");
+    expect_read(&rt, &ran, &["m.swift"]);
+    let ran = run_alone(rt, words, &[("m.swift", "struct S {")])?;
+    expect(&rt, &ran, 3, "", "r.swift: the file could not be read\n");
+    expect_read(&rt, &ran, &["m.swift", "r.swift"]);
+    Ok(())
+}
+
+// Lines of 32 bytes, one more than a file may have.
+fn too_long(alloc: Global) -> Result<String, AllocError> {
+    let mut content = String::new(alloc);
+    for _ in 0..131_073 {
+        content.push_str("let a = (b + c + d + e + f + g)\n")?;
+    }
+    Ok(content)
+}
+
 #[test]
 fn source_above_the_limit(rt: HostRuntime) -> Result<(), Fail> {
-    let line = "let a = (b + c + d + e + f + g)\n";
-    let mut content = String::new(rt.alloc());
-    for _ in 0..131_073 {
-        content.push_str(line)?;
+    let content = too_long(rt.alloc())?;
+    let ran = run_alone(rt, "expand r.swift", &[("r.swift", &content)])?;
+    let line = "r.swift:1:1: error: the text is longer than 4194304 bytes\n";
+    expect_refused(&rt, &ran, line);
+    Ok(())
+}
+
+#[test]
+fn macros_file_above_the_limit(rt: HostRuntime) -> Result<(), Fail> {
+    let content = too_long(rt.alloc())?;
+    let files = [("m.swift", content.as_str()), ("r.swift", "let a = 1\n")];
+    let ran = run_alone(rt, "expand --macros m.swift r.swift", &files)?;
+    let line = "m.swift:1:1: error: the text is longer than 4194304 bytes\n";
+    expect_refused(&rt, &ran, line);
+    expect_read(&rt, &ran, &["m.swift"]);
+    Ok(())
+}
+
+// The first file that is refused names its fault; the table of macros comes after both.
+#[test]
+fn first_fault_of_two_files(rt: HostRuntime) -> Result<(), Fail> {
+    let cases = [
+        (
+            "struct S {",
+            "struct\n",
+            "m.swift:1:10: error: this bracket is not closed\n",
+        ),
+        (
+            "macro a()\n",
+            "let b = 1\nstruct\n",
+            "r.swift:2:1: error: a name was expected\n",
+        ),
+    ];
+    for (macros, content, line) in cases {
+        let files = [("m.swift", macros), ("r.swift", content)];
+        let ran = run_alone(rt, WITH_MACROS, &files)?;
+        expect_refused(&rt, &ran, line);
+        expect_read(&rt, &ran, &["m.swift", "r.swift"]);
     }
-    let none = Vec::new(rt.alloc());
-    let ran = run_on(rt, "expand r.swift", Some(&content), None, none)?;
-    let too_long = "r.swift:1:1: error: the text is longer than 4194304 bytes\n";
-    expect(&rt, &ran, 1, "", too_long);
     Ok(())
 }
 
@@ -213,9 +382,13 @@ fn first_write_fails(rt: HostRuntime) -> Result<(), Fail> {
     let alloc = rt.alloc();
     let source = joined(alloc, &[DECLARATION, "let r = #stringify(a + b)\n"])?;
     let gives = joined(alloc, &[GREETED, REPLIED])?;
-    let script = Some((gives.as_bytes(), Vec::new(alloc)));
-    let words = "expand r.swift SampleMacros=plug";
-    let ran = run_on(rt, words, Some(&source), script, [0].to_vec(alloc)?)?;
+    let ran = run_failing(
+        rt,
+        "expand r.swift SampleMacros=plug",
+        &[("r.swift", &source)],
+        one_script(alloc, gives.into_bytes(), &[])?,
+        [0].to_vec(alloc)?,
+    )?;
     expect(&rt, &ran, 4, "", "");
     Ok(())
 }
@@ -243,8 +416,7 @@ fn refusals_of_a_use(rt: HostRuntime) -> Result<(), Fail> {
         ),
     ];
     for (words, content, line) in cases {
-        let none = Vec::new(alloc);
-        let ran = run_on(rt, words, Some(content), None, none)?;
+        let ran = run_alone(rt, words, &[("r.swift", content)])?;
         expect(&rt, &ran, 1, "", line);
         for entry in &ran.ended.unstarted {
             assert_eq!(rt; (entry.before, entry.after), (0, 1));
@@ -255,14 +427,8 @@ fn refusals_of_a_use(rt: HostRuntime) -> Result<(), Fail> {
 
 // The source s.swift with this content, where no process is there to be asked.
 fn on_source(rt: HostRuntime, content: &str) -> Result<Ran, AllocError> {
-    let none = Vec::new(rt.alloc());
     let words = "expand s.swift SampleMacros=plug";
-    run_on(rt, words, Some(content), None, none)
-}
-
-fn expect_refused(rt: &impl Abort, ran: &Ran, line: &str) {
-    expect(rt, ran, 1, "", line);
-    assert_eq!(rt; ran.ended.unstarted.len(), 0);
+    run_alone(rt, words, &[("s.swift", content)])
 }
 
 #[test]
@@ -305,53 +471,235 @@ fn names_of_expansions_are_reserved(rt: HostRuntime) -> Result<(), Fail> {
     Ok(())
 }
 
-// What stands behind the declaration of `stringify`, and where it is not expanded yet.
 #[test]
-fn places_that_are_not_built_yet(rt: HostRuntime) -> Result<(), Fail> {
+fn one_process_two_uses(rt: HostRuntime) -> Result<(), Fail> {
     let alloc = rt.alloc();
-    let cases = [
-        // two uses, one of them in an attribute's argument
-        ("let r = #stringify(1)\nlet s = #stringify(2)\n", "3:9"),
-        (
-            "@A(#stringify(1)) class C { let s = #stringify(2) }\n",
-            "2:37",
-        ),
-        // a use in a declaration's place
-        ("#stringify(1)\n", "2:1"),
-        ("struct S {\n  #nope\n}\n", "3:3"),
-        // an attribute with the macro's name
-        ("@stringify struct S {}\n", "2:1"),
-        ("struct S {\n  @A @stringify var x = 1\n}\n", "3:6"),
-        ("func f() {\n  @stringify let x = 1\n}\n", "3:3"),
-        // the macro again, and a macro of another form
-        (DECLARATION, "2:1"),
-        (
-            "let a = 1; @freestanding(declaration) macro m() = #externalMacro(module: \"M\", type: \"T\")\n",
-            "2:12",
-        ),
-        // the first of them
-        ("@stringify struct S {}\n#stringify(1)\n", "2:1"),
-    ];
-    for (content, place) in cases {
-        let content = joined(alloc, &[DECLARATION, content])?;
-        let line = joined(
-            alloc,
-            &["s.swift:", place, ": error: this form is not built yet\n"],
-        )?;
-        let ran = on_source(rt, &content)?;
-        expect_refused(&rt, &ran, &line);
+    let gives = answers(alloc, &["1", "2"])?;
+    let scripts = one_script(alloc, gives, &ONE_FRAME_A_READ)?;
+    let ran = run_with_macros(rt, TWO_USES, scripts)?;
+    expect(&rt, &ran, 0, "let a = (1)\nlet b = (2)\n", "");
+    assert_eq!(rt; ran.ended.links.len(), 1);
+    let link = &ran.ended.links[0];
+    assert_eq!(rt; link.asked.len(), 2);
+    assert_eq!(rt; (link.asked[0].steps[0].offset, link.asked[1].steps[0].offset), (8, 22));
+    let sent = joined(alloc, &[GREETING, FIRST_REQUEST, SECOND_REQUEST])?;
+    assert_eq!(rt; link.writer.held(), sent.as_bytes());
+    Ok(())
+}
+
+#[test]
+fn second_process_after_an_end(rt: HostRuntime) -> Result<(), Fail> {
+    let alloc = rt.alloc();
+    let mut scripts = one_script(alloc, answers(alloc, &[])?, &[])?;
+    scripts.push(script(alloc, answers(alloc, &["2"])?, &[])?)?;
+    let ran = run_with_macros(rt, TWO_USES, scripts)?;
+    let line = "r.swift:1:9: error: plug-in 'A' gave no reply\n";
+    expect(&rt, &ran, 1, "", line);
+    assert_eq!(rt; ran.ended.links.len(), 2);
+    assert_eq!(rt; ran.ended.unstarted.len(), 0);
+    for (link, request) in ran.ended.links.iter().zip([FIRST_REQUEST, SECOND_REQUEST]) {
+        assert_eq!(rt; link.asked.len(), 1);
+        let sent = joined(alloc, &[GREETING, request])?;
+        assert_eq!(rt; link.writer.held(), sent.as_bytes());
     }
     Ok(())
 }
 
-// The expansion of `stringify` where the process gives these bytes.
-fn expand_over(rt: HostRuntime, gives: &[u8]) -> Result<Ran, AllocError> {
+#[test]
+fn use_in_arguments_is_text(rt: HostRuntime) -> Result<(), Fail> {
     let alloc = rt.alloc();
-    let source = joined(alloc, &[DECLARATION, "let r = #stringify(a + b)\n"])?;
-    let script = Some((gives, Vec::new(alloc)));
-    let none = Vec::new(alloc);
-    let words = "expand r.swift SampleMacros=plug";
-    run_on(rt, words, Some(&source), script, none)
+    let scripts = one_script(alloc, answers(alloc, &["1"])?, &[])?;
+    let ran = run_with_macros(rt, "let v = #outer(#inner(1))\n", scripts)?;
+    expect(&rt, &ran, 0, "let v = (1)\n", "");
+    assert_eq!(rt; ran.ended.links.len(), 1);
+    let sent = joined(alloc, &[GREETING, NESTED_REQUEST])?;
+    assert_eq!(rt; ran.ended.links[0].writer.held(), sent.as_bytes());
+    Ok(())
+}
+
+#[test]
+fn module_without_a_plugin(rt: HostRuntime) -> Result<(), Fail> {
+    let files = [("m.swift", MACROS), ("r.swift", "let a = #p(1)\n")];
+    let ran = run_alone(rt, "expand --macros m.swift r.swift", &files)?;
+    let line = "r.swift:1:9: error: no plug-in for module 'A'\n";
+    expect_refused(&rt, &ran, line);
+    Ok(())
+}
+
+// A name is one macro's, whichever of the two files declares it.
+#[test]
+fn macro_declared_twice(rt: HostRuntime) -> Result<(), Fail> {
+    let alloc = rt.alloc();
+    let macros = joined(alloc, &[DECLARATION, DECLARATION])?;
+    let source = joined(alloc, &["let r = #stringify(1)\n", DECLARATION])?;
+    let files = [("m.swift", macros.as_str()), ("r.swift", &source)];
+    let ran = run_alone(rt, "expand --macros m.swift r.swift SampleMacros=plug", &files)?;
+    let lines =
+        "m.swift:2:33: error: macro 'stringify' is declared twice\nr.swift:2:33: error: macro 'stringify' is declared twice\n";
+    expect_refused(&rt, &ran, lines);
+    Ok(())
+}
+
+/// Texts with what is written about them: the faults of declarations, of uses and of attributes, and several of them.
+const FAULTS: [(&str, &str); 16] = [
+    (
+        "@freestanding(expression) macro p() = #externalMacro(module: \"A\", type: \"T\")\n",
+        "r.swift:1:33: error: macro 'p' is declared twice\n",
+    ),
+    (
+        "macro a() = #externalMacro(module: \"A\", type: \"T\")\n",
+        "r.swift:1:7: error: macro 'a' has no role\n",
+    ),
+    (
+        "@attached(body) macro a() = #externalMacro(module: \"A\", type: \"T\")\n",
+        "r.swift:1:1: error: this role is left out or repeated\n",
+    ),
+    (
+        "@freestanding(expression) @freestanding(declaration) macro a() = #externalMacro(module: \"A\", type: \"T\")\n",
+        "r.swift:1:27: error: macro 'a' has two freestanding roles\n",
+    ),
+    (
+        "@attached(peer, names: b) macro a() = #externalMacro(module: \"A\", type: \"T\")\n",
+        "r.swift:1:1: error: this list of names is not understood\n",
+    ),
+    (
+        "@attached(member, conformances: P) macro a() = #externalMacro(module: \"A\", type: \"T\")\n",
+        "r.swift:1:1: error: this list of conformances is not understood\n",
+    ),
+    (
+        "@attached(peer) macro a()\n",
+        "r.swift:1:23: error: macro 'a' is not an external macro\n",
+    ),
+    (
+        "let x = #absent()\nmacro a()\nlet y = 1; @attached(peer) macro b()\n",
+        "r.swift:2:7: error: macro 'a' has no role\nr.swift:3:34: error: macro 'b' is not an external macro\n",
+    ),
+    (
+        "let x = #nothing(1)\n",
+        "r.swift:1:9: error: no macro named 'nothing'\n",
+    ),
+    (
+        "func f() { @Peered var x = 1 }\n",
+        "r.swift:1:12: error: macro 'Peered' is attached in a local place\n",
+    ),
+    (
+        "@Stored func f() {}\n",
+        "r.swift:1:1: error: macro 'Stored' has no role for this place\n",
+    ),
+    (
+        "@Stored var a = 1, b = 2\n",
+        "r.swift:1:1: error: an accessor macro needs a variable with one name\n",
+    ),
+    (
+        "@Stored var a: Int { 1 }\n",
+        "r.swift:1:1: error: an accessor macro needs a variable without a getter block\n",
+    ),
+    (
+        "let x = #absent()\n",
+        "r.swift:1:9: error: no plug-in for module 'N'\n",
+    ),
+    (
+        "#p(1)\nlet x = #made()\n",
+        "r.swift:1:1: error: macro 'p' has no role for this place\nr.swift:2:9: error: macro 'made' has no role for this place\n",
+    ),
+    (
+        "@p struct S {\n  #nothing\n  func f() { @p let x = #absent() }\n}\n",
+        "r.swift:1:1: error: macro 'p' has no role for this place\nr.swift:2:3: error: no macro named 'nothing'\nr.swift:3:14: error: macro 'p' is attached in a local place\nr.swift:3:25: error: no plug-in for module 'N'\n",
+    ),
+];
+
+#[test]
+fn faults_of_declarations_and_sites(rt: HostRuntime) -> Result<(), Fail> {
+    for (content, lines) in &FAULTS {
+        let ran = run_with_macros(rt, content, Vec::new(rt.alloc()))?;
+        expect_refused(&rt, &ran, lines);
+    }
+    Ok(())
+}
+
+/// Texts with the places at which a request of another role than expression would be asked.
+const NOT_BUILT: [(&str, &[&str]); 8] = [
+    ("#made()\n", &["1:1"]),
+    ("struct S {\n  #made()\n}\n", &["2:3"]),
+    ("@Peered struct S {}\n", &["1:1"]),
+    ("struct S {\n  @A @Stored var x = 1\n}\n", &["2:6"]),
+    // one a member that is no use
+    (
+        "@Given struct S {\n  var a = 1\n  #made()\n  var b = 2\n}\n",
+        &["1:1", "1:1", "3:3"],
+    ),
+    // as an attribute of members, as a member and as an extension
+    ("@Many struct S { var a = 1 }\n", &["1:1", "1:1", "1:1"]),
+    ("@Many extension S {}\n", &["1:1"]),
+    // in the order of visits, not of places
+    (
+        "@Peered struct S { @Stored var x = 1 }\n",
+        &["1:20", "1:1"],
+    ),
+];
+
+#[test]
+fn places_that_are_not_built_yet(rt: HostRuntime) -> Result<(), Fail> {
+    let alloc = rt.alloc();
+    for (content, places) in &NOT_BUILT {
+        let mut lines = String::new(alloc);
+        for place in *places {
+            let line = ["r.swift:", place, ": error: this form is not built yet\n"];
+            lines.push_str(&joined(alloc, &line)?)?;
+        }
+        let ran = run_with_macros(rt, content, Vec::new(alloc))?;
+        expect_refused(&rt, &ran, &lines);
+    }
+    Ok(())
+}
+
+// The uses between places that are faulty or not built are asked all the same.
+#[test]
+fn uses_beside_faults_are_asked(rt: HostRuntime) -> Result<(), Fail> {
+    let alloc = rt.alloc();
+    let content =
+        "#made()\nlet a = #p(1)\n@Peered struct S { let b = #nothing }\nlet c = #p(2)\nlet d = #p(3)\n";
+    let gives = answers(alloc, &["1", "2"])?;
+    let scripts = one_script(alloc, gives, &ONE_FRAME_A_READ)?;
+    let ran = run_with_macros(rt, content, scripts)?;
+    let lines =
+        "r.swift:1:1: error: this form is not built yet\nr.swift:3:28: error: no macro named 'nothing'\nr.swift:3:1: error: this form is not built yet\nr.swift:5:9: error: plug-in 'A' gave no reply\n";
+    expect(&rt, &ran, 1, "", lines);
+    assert_eq!(rt; ran.ended.links.len(), 1);
+    assert_eq!(rt; ran.ended.links[0].asked.len(), 3);
+    Ok(())
+}
+
+// An attribute of a macro that asks nothing there is replaced by one space, and its arguments with it.
+#[test]
+fn attribute_that_asks_nothing(rt: HostRuntime) -> Result<(), Fail> {
+    let alloc = rt.alloc();
+    let cases = [
+        ("@Given enum E {}\n", "  enum E {}\n"),
+        ("@Given(#p(1)) @b\nstruct S {}\n", "  @b\nstruct S {}\n"),
+        ("let a = 1\n@Given@c extension E { #if A\n#endif }\n", "let a = 1\n @c extension E { #if A\n#endif }\n"),
+    ];
+    for (content, whole) in cases {
+        let ran = run_with_macros(rt, content, Vec::new(alloc))?;
+        expect(&rt, &ran, 0, whole, "");
+        expect_unasked(&rt, &ran);
+    }
+    Ok(())
+}
+
+// An attribute's argument, an own text and a member, in the order of their requests.
+#[test]
+fn uses_in_visit_order(rt: HostRuntime) -> Result<(), Fail> {
+    let alloc = rt.alloc();
+    let content =
+        "@Given @c(#p(1)) class C: D<{ #p(2) }> { }\nfunc f() { g(#p(3)) }\n";
+    let whole = "  @c((a)) class C: D<{ (b) }> { }\nfunc f() { g((c)) }\n";
+    let gives = answers(alloc, &["a", "b", "c"])?;
+    let scripts = one_script(alloc, gives, &[68, 69, 69, 69])?;
+    let ran = run_with_macros(rt, content, scripts)?;
+    expect(&rt, &ran, 0, whole, "");
+    assert_eq!(rt; ran.ended.links.len(), 1);
+    Ok(())
 }
 
 #[test]
@@ -370,7 +718,8 @@ fn bad_replies_are_no_reply(rt: HostRuntime) -> Result<(), Fail> {
         no_greeting.as_str(),
         greeted_twice.as_str(),
     ] {
-        let ran = expand_over(rt, gives.as_bytes())?;
+        let gives = Vec::from_slice(alloc, gives.as_bytes())?;
+        let ran = expand_stringify(rt, gives, &[])?;
         expect(&rt, &ran, 1, "", no_reply);
     }
     Ok(())
@@ -385,20 +734,10 @@ fn replies_without_a_text_or_with_a_diagnostic_wait(rt: HostRuntime) -> Result<(
     let line = "r.swift:2:9: error: this form is not built yet\n";
     for reply in [no_text, warned] {
         let gives = joined(alloc, &[GREETED, reply])?;
-        let ran = expand_over(rt, gives.as_bytes())?;
+        let ran = expand_stringify(rt, gives.into_bytes(), &[])?;
         expect(&rt, &ran, 1, "", line);
     }
     Ok(())
-}
-
-// What a process gives that answers with this text.
-fn answers(alloc: Global, reply: &str) -> Result<Vec<u8>, AllocError> {
-    let before = "{\"expandMacroResult\":{\"diagnostics\":[],\"expandedSource\":\"";
-    let payload = joined(alloc, &[before, reply, "\"}}"])?;
-    let mut gives = Vec::from_slice(alloc, GREETED.as_bytes())?;
-    gives.extend_from_slice(&header(payload.len() as u64))?;
-    gives.extend_from_slice(payload.as_bytes())?;
-    Ok(gives)
 }
 
 #[test]
@@ -429,8 +768,7 @@ fn refused_replies(rt: HostRuntime) -> Result<(), Fail> {
         ),
     ];
     for (reply, line) in cases {
-        let gives = answers(alloc, reply)?;
-        let ran = expand_over(rt, &gives)?;
+        let ran = expand_stringify(rt, answers(alloc, &[reply])?, &[])?;
         expect(&rt, &ran, 1, "", line);
         assert_eq!(rt; ran.ended.links.len(), 1);
     }
@@ -444,8 +782,8 @@ fn reply_is_put_in_from_its_first_token_to_its_last(rt: HostRuntime) -> Result<(
         alloc,
         &[DECLARATION, "let r = (@b.stringify /* c */ $sX1)\n"],
     )?;
-    let gives = answers(alloc, " // a\\n@b.stringify /* c */ $sX1 ")?;
-    let ran = expand_over(rt, &gives)?;
+    let gives = answers(alloc, &[" // a\\n@b.stringify /* c */ $sX1 "])?;
+    let ran = expand_stringify(rt, gives, &[])?;
     expect(&rt, &ran, 0, &whole, "");
     Ok(())
 }
@@ -465,12 +803,46 @@ fn use_deep_inside(rt: HostRuntime) -> Result<(), Fail> {
     for (before, behind) in cases {
         let content = joined(alloc, &[before, "#p(#p(1))", behind, declaration])?;
         let whole = joined(alloc, &[before, "(2)", behind, declaration])?;
-        let gives = answers(alloc, "2")?;
-        let script = Some((gives.as_slice(), Vec::new(alloc)));
-        let none = Vec::new(alloc);
+        let scripts = one_script(alloc, answers(alloc, &["2"])?, &[])?;
         let words = "expand s.swift SampleMacros=plug";
-        let ran = run_on(rt, words, Some(&content), script, none)?;
+        let ran = run_on(rt, words, &[("s.swift", &content)], scripts)?;
         expect(&rt, &ran, 0, &whole, "");
     }
+    Ok(())
+}
+
+// So many uses, a line each.
+fn many_uses(alloc: Global, count: u32) -> Result<String, AllocError> {
+    let mut content = String::new(alloc);
+    for _ in 0..count {
+        content.push_str("let a = #p(1)\n")?;
+    }
+    Ok(content)
+}
+
+#[test]
+fn more_uses_than_are_asked(rt: HostRuntime) -> Result<(), Fail> {
+    let alloc = rt.alloc();
+    let content = many_uses(alloc, 65_537)?;
+    let scripts = one_script(alloc, answers(alloc, &["1"])?, &[])?;
+    let ran = run_with_macros(rt, &content, scripts)?;
+    let line = "r.swift:1:1: error: the file needs more than 65536 expansions\n";
+    expect_refused(&rt, &ran, line);
+    Ok(())
+}
+
+// Behind the first reply the process gives more bytes than are read of all, so the second use isn't asked.
+#[test]
+fn more_bytes_than_are_read(rt: HostRuntime) -> Result<(), Fail> {
+    let alloc = rt.alloc();
+    let mut gives = answers(alloc, &["1"])?;
+    gives.resize(67_108_865, 255)?;
+    let ran = run_with_macros(rt, TWO_USES, one_script(alloc, gives, &[])?)?;
+    let line = "r.swift:1:1: error: the plug-ins sent more than 67108864 bytes\n";
+    expect(&rt, &ran, 1, "", line);
+    assert_eq!(rt; ran.ended.links.len(), 1);
+    let link = &ran.ended.links[0];
+    assert_eq!(rt; (link.asked.len(), link.got.len()), (1, 67_108_865));
+    assert_eq!(rt; link.stop, Stop::Overrun);
     Ok(())
 }
