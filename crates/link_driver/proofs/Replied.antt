@@ -1,5 +1,5 @@
 -- Each key of a process but its last has a reply.
-use Rattle.std.proofs.Common.{◌≡◌, ℕ, zero, suc, ◌+◌, ◌<◌, ◌≤◌, ◌⊎◌, ◌==◌, ◌&&◌, ◌||◌, not, Bool, true, false, if◌then◌else◌, Option, Some, None, List, [], ◌∷◌, ◌++◌, length, map, slice_get, refl, sym, ap, subst, ◌∙◌, append_assoc, append-nil, length-append, arith, inl, inr}
+use Rattle.std.proofs.Common.{◌≡◌, ℕ, zero, suc, ◌+◌, ◌<◌, ◌⊎◌, ◌==◌, ◌&&◌, not, Bool, true, false, if◌then◌else◌, Option, Some, List, [], ◌∷◌, ◌++◌, length, slice_get, refl, sym, ap, subst, ◌∙◌, length-append, arith, inl, inr}
 use Rattle.std.proofs.lemmas.List.{length-map}
 use Rattle.std.proofs.lemmas.Bool.Decides.{nat_tests}
 use Rattle.plugin_frames.specs.Frames.{Tail, Rest, IsFrames}
@@ -7,11 +7,9 @@ use Rattle.plugin_frames.specs.Laws.{EachListIsFrames, OneReading, FramesGoOn}
 use Rattle.plugin_messages.specs.PluginOf.{plugin_message_of}
 use Rattle.plugin_messages.specs.declared.message.Outcome.{Outcome}
 use Rattle.link_driver.specs.declared.link.Stop.{Stop}
-use Rattle.link_driver.specs.Links.{LinkSeen}
-use Rattle.link_driver.specs.LinkTable.{reply_outcome, is_reply, is_result, is_capability, is_length, greets_badly, is_next, replied, outcome_at, each_below, IsLinkTable, IsTableOf}
-use Rattle.link_driver.specs.Requests.{Wanted, key_of}
-use Rattle.link_driver.specs.Driven.{Each, HasGreeted, AreReplies, HasReplies, IsProcess}
-use Rattle.link_driver.specs.Laws.{HasRepliesButLast, OnlyLastKeysFail}
+use Rattle.link_driver.specs.LinkTable.{reply_outcome, is_reply, is_result, is_capability, is_length, greets_badly, is_next, replied, outcome_at, each_below}
+use Rattle.link_driver.specs.Driven.{Each, HasGreeted, AreReplies}
+use Rattle.link_driver.specs.Laws.{OnlyLastKeysFail}
 
 below_count : {A : Type 0} (f : ℕ → A) (count : ℕ) → length (each_below f count) ≡ count
 below_count f zero = refl

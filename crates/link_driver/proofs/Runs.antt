@@ -1,16 +1,15 @@
 -- What follows from the turns of a run.
-use Rattle.std.proofs.Common.{◌≡◌, ℕ, zero, suc, ◌+◌, ◌<◌, ◌≤◌, ◌⊎◌, Option, Some, None, List, [], ◌∷◌, ◌++◌, length, map, flat_map, IsPermutation, refl, sym, ap, subst, ◌∙◌, append_assoc, append-nil, length-append, arith, le_refl, inl, inr}
+use Rattle.std.proofs.Common.{◌≡◌, ℕ, ◌+◌, ◌<◌, ◌≤◌, Option, Some, None, List, [], ◌∷◌, ◌++◌, length, map, flat_map, IsPermutation, refl, sym, ap, subst, ◌∙◌, append_assoc, append-nil, length-append, arith, le_refl, inl, inr}
 use Rattle.std.proofs.lemmas.List.{map-append}
 use Rattle.std.proofs.lemmas.List.Sorted.{IsPermutation-refl, IsPermutation-sym, IsPermutation-cons, IsPermutation-trans, IsPermutation-append, IsPermutation-middle}
-use Rattle.swift_base.specs.Told.{Rose}
 use Rattle.swift_base.specs.Outside.{StarterSeen, Commands, TakesLink, then_started, then_failed}
 use Rattle.link_driver.specs.declared.link.TheConstants.{MOST_BYTES}
 use Rattle.link_driver.specs.declared.link.Unstarted.{Unstarted}
 use Rattle.link_driver.specs.Links.{KeySteps, LinkSeen, RunningSeen, whole_of}
 use Rattle.link_driver.specs.Requests.{Wanted, key_of, first_command}
-use Rattle.link_driver.specs.Driven.{Each, bytes_of, running_bytes, DriverSeen, IsDriven, IsRunning, IsProcess, IsFailedStart, TakesProcess, Turn, Process, Failure, requests_in, links_in, unstarted_in, IsTurn, AreTurns}
+use Rattle.link_driver.specs.Driven.{Each, bytes_of, running_bytes, DriverSeen, IsDriven, IsRunning, Turn, Process, Failure, requests_in, links_in, unstarted_in, AreTurns}
 use Rattle.link_driver.specs.Ran.{HasRun}
-use Rattle.link_driver.specs.Laws.{asked_keys, AsksOnce, RunsAskOnce, IsSublist, none, takes, skips, IsServedOf, ProcessesServe, GaveLinks, RunsGiveLinks, EachPair, then_commands, IsStartedFor, IsFailedFor, StartsAsWanted, RunsStartAsWanted, FailedBetween, FailedStartsHaveCauses, HasCause, StopsHaveCauses, NothingDone, NothingWantedNothingDone}
+use Rattle.link_driver.specs.Laws.{asked_keys, RunsAskOnce, IsSublist, none, takes, skips, IsServedOf, ProcessesServe, GaveLinks, RunsGiveLinks, EachPair, then_commands, IsStartedFor, IsFailedFor, RunsStartAsWanted, FailedBetween, FailedStartsHaveCauses, HasCause, StopsHaveCauses, NothingWantedNothingDone}
 
 most_given : (done : DriverSeen) → done.running ≡ None → MOST_BYTES < bytes_of done.links + running_bytes done.running → MOST_BYTES < bytes_of done.links
 most_given done is_none over =

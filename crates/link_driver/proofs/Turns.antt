@@ -1,5 +1,5 @@
 -- What one more turn makes of a driver.
-use Rattle.std.proofs.Common.{◌≡◌, ℕ, zero, suc, ◌+◌, ◌-◌, ◌<◌, ◌≤◌, ◌⊎◌, Bool, true, false, nat_le, Option, Some, None, option_map, List, [], ◌∷◌, ◌++◌, length, map, flat_map, refl, sym, ap, ap₂, subst, ◌∙◌, append_assoc, append-nil, length-append, arith, inl, inr}
+use Rattle.std.proofs.Common.{◌≡◌, ℕ, suc, ◌+◌, ◌-◌, ◌<◌, ◌≤◌, ◌⊎◌, Bool, true, false, nat_le, Option, Some, None, List, [], ◌∷◌, ◌++◌, length, map, flat_map, refl, sym, ap, ap₂, subst, ◌∙◌, append_assoc, append-nil, length-append, arith, inl, inr}
 use Rattle.std.proofs.lemmas.Bool.Decides.{nat_tests}
 use Rattle.std.proofs.lemmas.List.Concat.{flat_map-append}
 use Rattle.std.proofs.lemmas.List.{map-append}
@@ -7,16 +7,15 @@ use Rattle.swift_base.specs.Told.{prepend, Rose}
 use Rattle.swift_base.specs.Outside.{StarterSeen, IsFreshWriter, IsFreshReader, TakesLink, then_started, then_failed}
 use Rattle.plugin_frames.specs.Frames.{Rest, IsFrames}
 use Rattle.plugin_frames.specs.Laws.{FramesGoOn, NoFrames}
-use Rattle.plugin_messages.specs.PluginOf.{plugin_message_of}
 use Rattle.plugin_messages.specs.declared.request.Request.{Request}
 use Rattle.link_driver.specs.declared.link.TheConstants.{MOST_BYTES}
 use Rattle.link_driver.specs.declared.link.Unstarted.{Unstarted}
-use Rattle.link_driver.specs.Links.{KeySteps, LinkSeen, RunningSeen, whole_of, running_whole, Gains, Holds, IsWritten, HasNotStopped}
-use Rattle.link_driver.specs.LinkTable.{is_capability, is_result}
-use Rattle.link_driver.specs.Requests.{Wanted, wanted_of, key_of, module_of, greeting_frame, request_frame, bytes_for, write_for, sent_for, first_command}
-use Rattle.link_driver.specs.Awaiting.{AreAwaited, Replies}
+use Rattle.link_driver.specs.Links.{KeySteps, LinkSeen, RunningSeen, whole_of, running_whole, Holds, IsWritten}
+use Rattle.link_driver.specs.LinkTable.{is_result}
+use Rattle.link_driver.specs.Requests.{Wanted, key_of, module_of, greeting_frame, request_frame, bytes_for, write_for, sent_for, first_command}
+use Rattle.link_driver.specs.Awaiting.{AreAwaited}
 use Rattle.link_driver.specs.Asking.{IsRetired, HasAnswered, HasEnded, IsAskedOf, goes_on, ends}
-use Rattle.link_driver.specs.Driven.{DriverSeen, Each, bytes_of, running_bytes, RunsFor, HasGreeted, AreReplies, HasReplies, IsReady, IsProcess, TakesProcess, IsFailedStart, IsAskedWithin, IsWithin, AreWithin, Turn, Process, Failure, requests_in, links_in, unstarted_in, IsTurn, AreTurns, Runs, IsRunning, IsDriven}
+use Rattle.link_driver.specs.Driven.{DriverSeen, Each, bytes_of, running_bytes, AreReplies, HasReplies, IsReady, IsProcess, TakesProcess, IsFailedStart, IsAskedWithin, IsWithin, AreWithin, Turn, Process, Failure, requests_in, links_in, unstarted_in, IsTurn, AreTurns, IsRunning, IsDriven}
 use Rattle.link_driver.proofs.Written.{gains_whole, given_held}
 
 -- lists

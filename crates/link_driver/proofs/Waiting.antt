@@ -1,15 +1,15 @@
 -- What was read since a process was asked.
-use Rattle.std.proofs.Common.{◌≡◌, ℕ, ◌<◌, ◌≤◌, Bool, true, false, not, Vec, List, [], ◌∷◌, ◌++◌, length, drop, refl, sym, ap, subst, ◌∙◌, append_assoc, append-nil, arith}
+use Rattle.std.proofs.Common.{◌≡◌, ℕ, ◌≤◌, Bool, true, false, not, Vec, List, [], ◌∷◌, ◌++◌, length, drop, refl, sym, ap, subst, ◌∙◌, append_assoc, append-nil, arith}
 use Rattle.std.proofs.Transfers.{drop-appended}
-use Rattle.plugin_frames.specs.Frames.{Tail, Rest, Length, IsFrames}
+use Rattle.plugin_frames.specs.Frames.{Tail, Rest, IsFrames}
 use Rattle.plugin_frames.specs.Feeding.{LeavesRest, IsWaiting}
 use Rattle.plugin_frames.specs.Cutting.{payloads_of}
 use Rattle.plugin_frames.specs.Laws.{FramesGoOn, NoFrames}
 use Rattle.plugin_messages.specs.PluginOf.{plugin_message_of}
 use Rattle.swift_base.specs.Outside.{SourceSeen}
 use Rattle.link_driver.specs.Links.{Gains}
-use Rattle.link_driver.specs.LinkTable.{greets_badly, is_capability, is_result}
-use Rattle.link_driver.specs.Awaiting.{HasRead, IsSoleResult, AreAwaited, Replies}
+use Rattle.link_driver.specs.LinkTable.{greets_badly, is_capability}
+use Rattle.link_driver.specs.Awaiting.{HasRead, IsSoleResult, Replies}
 
 pub read_none : (got : List ℕ) (payloads : List (List ℕ)) (frames : Tail) → payloads ≡ [] → frames ≡ Rest [] → NoFrames → HasRead got got payloads frames
 read_none got payloads frames nothing fresh none = record {

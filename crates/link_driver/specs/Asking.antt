@@ -1,5 +1,5 @@
 -- What one more request makes of a process and of a driver. This project's own.
-use Rattle.std.specs.Prelude.{◌≡◌, ℕ, ◌-◌, ◌++◌, Bool, Option, Some, None, List, [], ◌∷◌, length, map}
+use Rattle.std.specs.Prelude.{◌≡◌, ℕ, ◌-◌, ◌++◌, Bool, Some, None, List, [], ◌∷◌, length}
 use Rattle.swift_base.specs.Outside.{SourceSeen, SinkSeen}
 use Rattle.link_driver.specs.declared.talk.Answered.{Answered}
 use Rattle.link_driver.specs.declared.talk.Answered.TheVariants as answered

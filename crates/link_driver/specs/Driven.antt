@@ -1,7 +1,7 @@
 -- What a driver has done for all that it was asked so far, turn by turn. This project's own.
-use Rattle.std.specs.Prelude.{◌≡◌, ℕ, zero, suc, ◌+◌, ◌-◌, ◌<◌, ◌≤◌, ◌++◌, ◌⊎◌, Bool, true, false, Option, Some, None, option_map, List, [], ◌∷◌, length, map}
+use Rattle.std.specs.Prelude.{◌≡◌, ℕ, zero, suc, ◌+◌, ◌-◌, ◌<◌, ◌≤◌, ◌++◌, ◌⊎◌, true, Option, Some, None, option_map, List, [], ◌∷◌, length, map}
 use Rattle.std.specs.List.{flat_map}
-use Rattle.swift_base.specs.Told.{prepend, Rose}
+use Rattle.swift_base.specs.Told.{Rose}
 use Rattle.swift_base.specs.Outside.{SourceSeen, SinkSeen, StarterSeen, TakesLink, then_started, then_failed}
 use Rattle.plugin_frames.specs.Frames.{Rest, IsFrames}
 use Rattle.plugin_messages.specs.PluginOf.{plugin_message_of}
@@ -9,7 +9,7 @@ use Rattle.link_driver.specs.declared.link.TheConstants.{MOST_BYTES}
 use Rattle.link_driver.specs.declared.link.Unstarted.{Unstarted}
 use Rattle.link_driver.specs.declared.driver.Done.{Done}
 use Rattle.link_driver.specs.declared.driver.Driver.{Driver}
-use Rattle.link_driver.specs.Links.{KeySteps, LinkSeen, RunningSeen, link_seen, running_seen, whole_of, running_whole, StopHasCause, HasNotStopped, Holds, IsWritten}
+use Rattle.link_driver.specs.Links.{LinkSeen, RunningSeen, link_seen, running_seen, whole_of, running_whole, StopHasCause, HasNotStopped, Holds, IsWritten}
 use Rattle.link_driver.specs.LinkTable.{is_capability, is_result}
 use Rattle.link_driver.specs.Requests.{Wanted, key_of, module_of, write_for, sent_for, first_command}
 

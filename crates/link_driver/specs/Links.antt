@@ -1,5 +1,5 @@
 -- One process: what it was given, what it gave, and how its output stopped. This project's own.
-use Rattle.std.specs.Prelude.{◌≡◌, ℕ, ◌<◌, ◌≤◌, ◌++◌, Bool, true, false, Option, Some, None, List, [], ◌∷◌, length, take}
+use Rattle.std.specs.Prelude.{◌≡◌, ℕ, ◌<◌, ◌≤◌, ◌++◌, Bool, true, false, Option, Some, None, List, length, take}
 use Rattle.swift_base.specs.Told.{Tells, prepend}
 use Rattle.swift_base.specs.Outside.{SourceSeen, SinkSeen, IsFreshReader}
 use Rattle.unique_names.specs.declared.step.KeyStep.{KeyStep}

@@ -1,6 +1,6 @@
 -- What is wanted, and which bytes a process is given for it. Frames after swift-syntax's
 -- SwiftCompilerPluginMessageHandling; the rest is this project's own.
-use Rattle.std.specs.Prelude.{◌≡◌, ℕ, ◌++◌, Bool, true, false, List, [], ◌∷◌}
+use Rattle.std.specs.Prelude.{ℕ, ◌++◌, Bool, true, false, List, [], ◌∷◌}
 use Rattle.std.specs.List.{flat_map}
 use Rattle.plugin_frames.specs.Frames.{frame_of}
 use Rattle.plugin_messages.specs.RequestBytes.{greeting, host_of, host_payload_of}

@@ -173,6 +173,7 @@ fn two_requests_of_one_process(rt: HostRuntime) -> Result<(), Fail> {
     )?;
     expect(&rt, alloc, &ran, b"rr|".as_slice())?;
     let sent = sent(alloc)?;
+    assert_eq!(rt; ran.links.len(), 1);
     assert_eq!(rt; ran.links[0].writer.held(), sent.as_slice());
     assert_eq!(rt; ran.links[0].got.len(), 206);
     assert_eq!(rt; run_table(alloc, &ran.links, &ran.unstarted)?.len(), 2);
@@ -236,7 +237,9 @@ fn failed_start(rt: HostRuntime) -> Result<(), Fail> {
     expect(&rt, alloc, &ran, b"r|".as_slice())?;
     assert_eq!(rt; ran.unstarted.len(), 1);
     assert_eq!(rt; (ran.unstarted[0].before, ran.unstarted[0].after), (0, 1));
-    assert_eq!(rt; ran.unstarted[0].key.steps[0].offset, 0);
+    for step in &ran.unstarted[0].key.steps {
+        assert_eq!(rt; step.offset, 0);
+    }
     assert_eq!(rt; run_table(alloc, &ran.links, &ran.unstarted)?.len(), 2);
     Ok(())
 }
@@ -251,6 +254,7 @@ fn another_module(rt: HostRuntime) -> Result<(), Fail> {
     ];
     let ran = run_on(alloc, &gives, &[], &[], &["M", "N", "M"])?;
     expect(&rt, alloc, &ran, b"r|r|r|".as_slice())?;
+    assert_eq!(rt; ran.links.len(), 3);
     assert_eq!(rt; ran.links[1].module_name.bytes(), b"N".as_slice());
     Ok(())
 }

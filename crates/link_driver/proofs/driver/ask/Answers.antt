@@ -1,4 +1,4 @@
-use Rattle.std.proofs.Common.{◌≡◌, sym, subst, ◌∙◌, nat_le, true, false, option_map, None}
+use Rattle.std.proofs.Common.{◌≡◌, sym, subst, ◌∙◌, nat_le, false, option_map, None}
 use Rattle.link_driver.specs.Driven.{done_seen, driver_seen, IsDriven, RunsFor, running_bytes}
 use Rattle.link_driver.specs.Links.{running_seen}
 use Rattle.link_driver.specs.Requests.{wanted_of}

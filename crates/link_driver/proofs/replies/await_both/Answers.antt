@@ -1,4 +1,4 @@
-use Rattle.std.proofs.Common.{ap, sym, ◌∙◌, ◌≤◌, length, map, subst, refl}
+use Rattle.std.proofs.Common.{ap, sym, ◌∙◌}
 use Rattle.plugin_frames.specs.Cutting.{payloads_of}
 use Rattle.link_driver.proofs.Waiting.{read_none, replied_both, some_payloads}
 use Rattle.link_driver.proofs.Written.{gains_more}

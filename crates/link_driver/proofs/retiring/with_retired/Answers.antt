@@ -1,4 +1,4 @@
-use Rattle.std.proofs.Common.{ap, sym, refl, subst, map, ◌∙◌, ◌∷◌, [], None}
+use Rattle.std.proofs.Common.{ap, sym, refl, subst, map, ◌∙◌, None}
 use Rattle.std.proofs.lemmas.List.{map-append}
 use Rattle.link_driver.specs.Driven.{DriverSeen, done_seen, IsDriven}
 use Rattle.link_driver.specs.Links.{link_seen, running_seen}

@@ -1,4 +1,4 @@
-use Rattle.std.proofs.Common.{ap, sym, refl, map, ◌∙◌, ◌∷◌, [], None}
+use Rattle.std.proofs.Common.{ap, refl, map, ◌∙◌}
 use Rattle.std.proofs.lemmas.List.{map-append}
 use Rattle.link_driver.specs.Asking.{goes_on, ends}
 use Rattle.link_driver.specs.Links.{link_seen, running_seen}

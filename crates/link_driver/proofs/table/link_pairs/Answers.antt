@@ -1,4 +1,4 @@
-use Rattle.std.proofs.Common.{◌<◌, arith}
+use Rattle.std.proofs.Common.{arith}
 use Rattle.link_driver.specs.Links.{link_seen}
 use Rattle.link_driver.proofs.Tables.{links_more}
 use Rattle.link_driver.proofs.table.link_pairs.Goals as goal

@@ -1,4 +1,4 @@
-use Rattle.std.proofs.Common.{◌∙◌, ◌<◌, arith}
+use Rattle.std.proofs.Common.{arith}
 use Rattle.link_driver.proofs.Tables.{link_more}
 use Rattle.link_driver.proofs.table.put_link.Goals as goal
 
