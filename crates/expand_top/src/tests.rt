@@ -97,11 +97,7 @@ fn script(alloc: Global, gives: Vec<u8>, sizes: &[u32]) -> Result<MemScript, All
     })
 }
 
-fn one_script(
-    alloc: Global,
-    gives: Vec<u8>,
-    sizes: &[u32],
-) -> Result<Vec<MemScript>, AllocError> {
+fn one_script(alloc: Global, gives: Vec<u8>, sizes: &[u32]) -> Result<Vec<MemScript>, AllocError> {
     let mut scripts = Vec::new(alloc);
     scripts.push(script(alloc, gives, sizes)?)?;
     Ok(scripts)
@@ -140,11 +136,7 @@ fn run_on(
 }
 
 // No process is there to be asked.
-fn run_alone(
-    rt: HostRuntime,
-    words: &str,
-    files: &[(&str, &str)],
-) -> Result<Ran, AllocError> {
+fn run_alone(rt: HostRuntime, words: &str, files: &[(&str, &str)]) -> Result<Ran, AllocError> {
     run_on(rt, words, files, Vec::new(rt.alloc()))
 }
 
@@ -312,7 +304,11 @@ fn missing_file(rt: HostRuntime) -> Result<(), Fail> {
 #[test]
 fn files_are_read_in_order(rt: HostRuntime) -> Result<(), Fail> {
     let words = "expand --macros m.swift r.swift";
-    let ran = run_alone(rt, words, &[("r.swift", "let a = 1\n"), ("m.swift", MACROS)])?;
+    let ran = run_alone(
+        rt,
+        words,
+        &[("r.swift", "let a = 1\n"), ("m.swift", MACROS)],
+    )?;
     expect(&rt, &ran, 0, "let a = 1\n", "");
     expect_read(&rt, &ran, &["m.swift", "r.swift"]);
     let ran = run_alone(rt, words, &[("r.swift", "struct S {")])?;
@@ -481,7 +477,10 @@ fn one_process_two_uses(rt: HostRuntime) -> Result<(), Fail> {
     assert_eq!(rt; ran.ended.links.len(), 1);
     let link = &ran.ended.links[0];
     assert_eq!(rt; link.asked.len(), 2);
-    assert_eq!(rt; (link.asked[0].steps[0].offset, link.asked[1].steps[0].offset), (8, 22));
+    assert_eq!(rt;
+        (link.asked[0].steps[0].offset, link.asked[1].steps[0].offset),
+        (8, 22)
+    );
     let sent = joined(alloc, &[GREETING, FIRST_REQUEST, SECOND_REQUEST])?;
     assert_eq!(rt; link.writer.held(), sent.as_bytes());
     Ok(())
@@ -533,7 +532,11 @@ fn macro_declared_twice(rt: HostRuntime) -> Result<(), Fail> {
     let macros = joined(alloc, &[DECLARATION, DECLARATION])?;
     let source = joined(alloc, &["let r = #stringify(1)\n", DECLARATION])?;
     let files = [("m.swift", macros.as_str()), ("r.swift", &source)];
-    let ran = run_alone(rt, "expand --macros m.swift r.swift SampleMacros=plug", &files)?;
+    let ran = run_alone(
+        rt,
+        "expand --macros m.swift r.swift SampleMacros=plug",
+        &files,
+    )?;
     let lines =
         "m.swift:2:33: error: macro 'stringify' is declared twice\nr.swift:2:33: error: macro 'stringify' is declared twice\n";
     expect_refused(&rt, &ran, lines);
@@ -632,10 +635,7 @@ const NOT_BUILT: [(&str, &[&str]); 8] = [
     ("@Many struct S { var a = 1 }\n", &["1:1", "1:1", "1:1"]),
     ("@Many extension S {}\n", &["1:1"]),
     // in the order of visits, not of places
-    (
-        "@Peered struct S { @Stored var x = 1 }\n",
-        &["1:20", "1:1"],
-    ),
+    ("@Peered struct S { @Stored var x = 1 }\n", &["1:20", "1:1"]),
 ];
 
 #[test]
@@ -677,7 +677,10 @@ fn attribute_that_asks_nothing(rt: HostRuntime) -> Result<(), Fail> {
     let cases = [
         ("@Given enum E {}\n", "  enum E {}\n"),
         ("@Given(#p(1)) @b\nstruct S {}\n", "  @b\nstruct S {}\n"),
-        ("let a = 1\n@Given@c extension E { #if A\n#endif }\n", "let a = 1\n @c extension E { #if A\n#endif }\n"),
+        (
+            "let a = 1\n@Given@c extension E {}\n",
+            "let a = 1\n @c extension E {}\n",
+        ),
     ];
     for (content, whole) in cases {
         let ran = run_with_macros(rt, content, Vec::new(alloc))?;
@@ -687,15 +690,16 @@ fn attribute_that_asks_nothing(rt: HostRuntime) -> Result<(), Fail> {
     Ok(())
 }
 
-// An attribute's argument, an own text and a member, in the order of their requests.
+// A parameter, a body, an attribute's argument and a member, in the order of their requests.
 #[test]
 fn uses_in_visit_order(rt: HostRuntime) -> Result<(), Fail> {
     let alloc = rt.alloc();
     let content =
-        "@Given @c(#p(1)) class C: D<{ #p(2) }> { }\nfunc f() { g(#p(3)) }\n";
-    let whole = "  @c((a)) class C: D<{ (b) }> { }\nfunc f() { g((c)) }\n";
-    let gives = answers(alloc, &["a", "b", "c"])?;
-    let scripts = one_script(alloc, gives, &[68, 69, 69, 69])?;
+        "func f(x: Int = #p(0)) { g(#p(1)) }\n@c(#p(2)) class C { var y: Int { #p(3) } }\n@Given enum E {}\n";
+    let whole =
+        "func f(x: Int = (a)) { g((b)) }\n@c((c)) class C { var y: Int { (d) } }\n  enum E {}\n";
+    let gives = answers(alloc, &["a", "b", "c", "d"])?;
+    let scripts = one_script(alloc, gives, &[68, 69, 69, 69, 69])?;
     let ran = run_with_macros(rt, content, scripts)?;
     expect(&rt, &ran, 0, whole, "");
     assert_eq!(rt; ran.ended.links.len(), 1);
@@ -811,12 +815,13 @@ fn use_deep_inside(rt: HostRuntime) -> Result<(), Fail> {
     Ok(())
 }
 
-// So many uses, a line each.
+// So many uses, in one list.
 fn many_uses(alloc: Global, count: u32) -> Result<String, AllocError> {
-    let mut content = String::new(alloc);
-    for _ in 0..count {
-        content.push_str("let a = #p(1)\n")?;
+    let mut content = String::from_str(alloc, "let a = [#p")?;
+    for _ in 1..count {
+        content.push_str(",#p")?;
     }
+    content.push_str("]\n")?;
     Ok(content)
 }
 

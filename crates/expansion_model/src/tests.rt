@@ -1,13 +1,14 @@
 // Worked examples: the fault of each site, what is text alone, and orders of visits.
 
 use super::*;
-use decl_parser::parse_file;
+use decl_parser::{parse_file, parse_items};
 use macro_decls::MacroTable;
+use role_names::declared_names;
 use std::alloc::Global;
 use std::fmt::Write;
 use std::process::Abort;
 use std::test::Fail;
-use swift_base::{Plugin, Plugins, Text};
+use swift_base::{Plugin, Plugins, Span, Text};
 
 /// The macros of the examples. Module `N` has no plug-in.
 const MACROS: &str = "\
@@ -191,5 +192,17 @@ fn sites_in_visit_order(rt: HostRuntime) -> Result<(), Fail> {
     for (text, want) in &VISITS {
         assert_eq!(rt; sites_in(rt.alloc(), text)?.as_str(), *want, "of {text:?}");
     }
+    Ok(())
+}
+
+/// From a declaration as it is parsed to the names that it declares.
+#[test]
+fn names_of_a_case(rt: HostRuntime) -> Result<(), Fail> {
+    let alloc = rt.alloc();
+    let outline = parse_items(alloc, b"case a, b(Int)")?;
+    assert_eq!(rt; outline.items.len(), 1);
+    let names = declared_names(alloc, &outline.items[0])?;
+    let wanted = [Span { start: 5, end: 6 }, Span { start: 8, end: 9 }];
+    assert_eq!(rt; names.as_slice(), wanted.as_slice());
     Ok(())
 }
