@@ -1,3 +1,5 @@
 pub mod Replies
 pub mod Reports
 pub mod Promises
+pub mod Found
+pub mod Files

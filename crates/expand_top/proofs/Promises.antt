@@ -15,6 +15,7 @@ use Rattle.expansion_model.specs.Sites.{sites_of}
 use Rattle.expansion_model.specs.Spans.{spans_of}
 use Rattle.expansion_model.specs.declared.site.Site.{Site}
 use Rattle.plugin_messages.specs.declared.message.Outcome.{Outcome}
+use Rattle.link_driver.proofs.Runs.{processes_serve}
 use Rattle.link_driver.specs.Driven.{Each}
 use Rattle.link_driver.specs.Laws.{IsServedOf, OnlyLastKeysFail}
 use Rattle.link_driver.specs.Links.{KeySteps, LinkSeen}
@@ -225,6 +226,10 @@ all_serve : OnlyLastKeysFail → (wanted : List Wanted) (links : List LinkSeen) 
 all_serve law wanted [] each = tt
 all_serve law wanted (link ∷ links) each = (serves law wanted link each.0, all_serve law wanted links each.1)
 
-pub links_serve : OnlyLastKeysFail → (file : Option (List ℕ)) (name : List ℕ) (plugins : List Plugin) (inputs : Inputs) (asking : Asking)
+links_serve : OnlyLastKeysFail → (file : Option (List ℕ)) (name : List ℕ) (plugins : List Plugin) (inputs : Inputs) (asking : Asking)
     → Each (IsServedOf (wanted_of_run file name plugins inputs)) asking.links → LinksServe file name plugins inputs asking
 links_serve law file name plugins inputs asking each = all_serve law (wanted_of_run file name plugins inputs) asking.links each
+
+pub links_served : OnlyLastKeysFail → (file : Option (List ℕ)) (name : List ℕ) (plugins : List Plugin) (inputs : Inputs) (asking : Asking) (output : Output)
+    → IsExpansion name plugins (meaning_of file name inputs) asking output → LinksServe file name plugins inputs asking
+links_served law file name plugins inputs asking output is = links_serve law file name plugins inputs asking (processes_serve _ _ _ _ _ is.asks)

@@ -104,3 +104,18 @@ pub edits_apart : (name text : List ℕ) (macros : List MacroDecl) (table : KeyS
     → AreEditsApart text (reports_of name text macros table sites)
 edits_apart name text macros table sites lie there line =
     can_be_made (length text) (edits_in (reports_of name text macros table sites)) (subst (LieApart 0 (length text)) (sym (reports_replace name text macros table sites there line)) lie)
+
+module _ (name text : List ℕ) (macros : List MacroDecl) (f g : KeySteps → Option Outcome) (same : (key : KeySteps) → f key ≡ g key) where
+  site_same : (s : Site) → site_report name text macros f s ≡ site_report name text macros g s
+  site_same (site.Asks ask) = ap (outcome_report name text macros ask) (same (key_of ask))
+  site_same (site.Fault fault) = refl
+  site_same (site.NotBuilt at) = refl
+  site_same (site.Attribute span) = refl
+
+  sites_same : (sites : List Site) → map (site_report name text macros f) sites ≡ map (site_report name text macros g) sites
+  sites_same [] = refl
+  sites_same (s ∷ sites) = ap₂ (λ (r : Report) (rs : List Report). r ∷ rs) (site_same s) (sites_same sites)
+
+  pub reports_same : (sites : List Site) → reports_of name text macros f sites ≡ reports_of name text macros g sites
+  unfolding reports_of
+  reports_same sites = sites_same sites

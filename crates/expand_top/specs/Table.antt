@@ -1,8 +1,9 @@
 -- The outcomes of a run, by key. This project's own.
-use Rattle.std.specs.Prelude.{◌≡◌, if◌then◌else◌, Option, Some, None, List, [], ◌∷◌}
+use Rattle.std.specs.Prelude.{◌≡◌, Option, None, List}
 use Rattle.std.specs.Cmp.Lexicographic.{pointwise}
 use Rattle.unique_names.specs.Steps.{step_eq}
 use Rattle.plugin_messages.specs.declared.message.Outcome.{Outcome}
+use Rattle.std.specs.Map.{update_all}
 use Rattle.indexmap.specs.IndexMap.{get}
 use Rattle.link_driver.specs.Links.{KeySteps}
 use Rattle.expand_top.specs.declared.table.Table.{Table}
@@ -11,14 +12,9 @@ use Rattle.expand_top.specs.declared.table.Table.{Table}
 abbrev pub look : Table → KeySteps → Option Outcome
 look table key = get (pointwise step_eq) table.outcomes key
 
--- what was put last under a key, behind an outcome from before
-abbrev pub outcome_after : Option Outcome → List (KeySteps × Outcome) → KeySteps → Option Outcome
-outcome_after so_far [] key = so_far
-outcome_after so_far (pair ∷ pairs) key = outcome_after (if pointwise step_eq pair.0 key then Some pair.1 else so_far) pairs key
-
--- the outcome of a key
+-- the outcome of a key: what was put last under it
 abbrev pub outcome_of : List (KeySteps × Outcome) → KeySteps → Option Outcome
-outcome_of pairs key = outcome_after None pairs key
+outcome_of pairs key = update_all (pointwise step_eq) (λ other. None) pairs key
 
 -- the table gives the outcome of each key
 abbrev pub Tells : (KeySteps → Option Outcome) → List (KeySteps × Outcome) → Type 0

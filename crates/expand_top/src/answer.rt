@@ -1,9 +1,9 @@
 // The answer for a source and the outcomes of what was asked at its sites.
-ghost use Rattle.std.specs.Prelude.{◌≡◌, ◌++◌, ◌∷◌, [], ◌<◌, ◌-◌, ◌^◌, IfOk, List, length, map, option_copied};
+ghost use Rattle.std.specs.Prelude.{◌≡◌, ◌++◌, ◌∷◌, [], ◌<◌, ◌-◌, ◌^◌, IfOk, List, false, length, map, option_copied};
 ghost use Rattle.std.specs.List.{flat_map, list_any};
 ghost use Rattle.expansion_model.specs.Requests.{place_of, IsPlaceIn};
 ghost use Rattle.result_splice.specs.Edits.{CanBeMade};
-ghost use Rattle.expand_top.specs.Answer.{buffer_name, in_brackets, line_at, splice_report, reply_report, outcome_report, site_report, reports_of, offset_of, AreEditsApart, is_missing, is_line, line_of, edit_of, edits_in, IsFile, IsByLines, IsAnswer};
+ghost use Rattle.expand_top.specs.Answer.{buffer_name, in_brackets, line_at, splice_report, reply_report, outcome_report, site_report, reports_of, offset_of, AreEditsApart, is_missing, is_line, line_of, edit_of, edits_in, IsFile, IsByLines, IsByMissing, IsAnswer};
 ghost use Rattle.expand_top.specs.Faults.{fault_text};
 ghost use Rattle.expand_top.specs.Lines.{error_at, output_seen};
 ghost use Rattle.expand_top.specs.Splices.{IsNear};
@@ -88,6 +88,7 @@ fn fault_line(
     Ok(Report::Line(Text::from_vec(bytes)))
 }
 
+#[tactic(auto, unfolding(expansion_model::specs::Requests::place_of))]
 fn splice_report(
     alloc: Global,
     name: &[u8],
@@ -112,6 +113,7 @@ fn splice_report(
     }
 }
 
+#[tactic(auto, unfolding(expansion_model::specs::Requests::place_of))]
 fn reply_report(
     alloc: Global,
     name: &[u8],
@@ -132,6 +134,7 @@ fn reply_report(
     splice_report(alloc, name, text, place, ask, reply, splice)
 }
 
+#[tactic(auto, unfolding(expansion_model::specs::Requests::place_of))]
 fn outcome_report(
     alloc: Global,
     name: &[u8],
@@ -173,6 +176,7 @@ fn offset_of(site: &Site) -> u32
     }
 }
 
+#[tactic(auto, unfolding(expansion_model::specs::Requests::place_of))]
 fn site_report(
     alloc: Global,
     name: &[u8],
@@ -204,7 +208,7 @@ fn site_report(
 }
 
 /// What becomes of the sites of a text.
-#[tactic(auto, unfolding(crate::specs::Answer::reports_of))]
+#[tactic(auto, unfolding(crate::specs::Answer::reports_of, expansion_model::specs::Requests::place_of))]
 pub fn reports_of(
     alloc: Global,
     name: &[u8],
@@ -285,6 +289,51 @@ fn file_of(alloc: Global, text: &[u8], reports: Vec<Report>) -> Result<Output, A
     Ok(prints(alloc, apply(alloc, text, edits)?))
 }
 
+fn has_missing(reports: &[Report]) -> bool
+    ensures { result ≡ list_any is_missing reports.now }
+{
+    reports.iter().any(|report| is_missing(report))
+}
+
+fn has_line(reports: &[Report]) -> bool
+    ensures { result ≡ list_any is_line reports.now }
+{
+    reports.iter().any(|report| is_line(report))
+}
+
+fn by_lines(
+    alloc: Global,
+    text: &[u8],
+    reports: Vec<Report>,
+    line: bool,
+) -> Result<Output, AllocError>
+    requires { line ≡ false → CanBeMade (length text.now) (edits_in reports.items) }
+    ensures { IfOk result (λ output. IsByLines line text.now reports.items (output_seen output)) }
+{
+    if line {
+        return Ok(faults(alloc, lines_of(alloc, &reports)?));
+    }
+    file_of(alloc, text, reports)
+}
+
+fn by_missing(
+    alloc: Global,
+    name: &[u8],
+    text: &[u8],
+    reports: Vec<Report>,
+    missing: bool,
+) -> Result<Output, AllocError>
+    requires missing { missing ≡ list_any is_missing reports.items }
+    requires apart { AreEditsApart text.now reports.items }
+    ensures { IfOk result (λ output. IsByMissing missing name.now text.now reports.items (output_seen output)) }
+{
+    if missing {
+        return refuses(alloc, name, 1, 1, TOO_MANY_BYTES);
+    }
+    let line = has_line(&reports);
+    by_lines(alloc, text, reports, line)
+}
+
 /// The answer for what became of the sites of a text.
 pub fn answer(
     alloc: Global,
@@ -295,11 +344,6 @@ pub fn answer(
     requires { AreEditsApart text.now reports.items }
     ensures { IfOk result (λ output. IsAnswer name.now text.now reports.items (output_seen output)) }
 {
-    if reports.iter().any(|report| is_missing(report)) {
-        return refuses(alloc, name, 1, 1, TOO_MANY_BYTES);
-    }
-    if reports.iter().any(|report| is_line(report)) {
-        return Ok(faults(alloc, lines_of(alloc, &reports)?));
-    }
-    file_of(alloc, text, reports)
+    let missing = has_missing(&reports);
+    by_missing(alloc, name, text, reports, missing)
 }

@@ -80,6 +80,7 @@ struct Reached<W: Drop, R: Drop> {
 }
 
 // The driver with the request of a site, where it has one.
+#[tactic(auto, unfolding(expansion_model::specs::Requests::place_of))]
 fn ask_site<P: Starter>(
     alloc: Global,
     reached: Reached<P::Writer, P::Reader>,
@@ -101,13 +102,15 @@ fn ask_site<P: Starter>(
         → IfOk result (λ next. IsDriven (earlier ++ wanted_at name.now plugins.now text.now site.now) before
         (driver_seen P.Writer.seen P.Reader.seen next.driver) (P.seen starter.new)) }
 {
-    let Site::Asks(wanted) = site else {
-        return Ok(reached);
-    };
-    let Reached { driver, place } = reached;
-    let place = place_from(text, place, wanted.macro_use.span.start);
-    let driver = ask_use(alloc, driver, starter, name, plugins, text, place, wanted)?;
-    Ok(Reached { driver, place })
+    match site {
+        Site::Asks(wanted) => {
+            let Reached { driver, place } = reached;
+            let place = place_from(text, place, wanted.macro_use.span.start);
+            let driver = ask_use(alloc, driver, starter, name, plugins, text, place, wanted)?;
+            Ok(Reached { driver, place })
+        }
+        Site::Fault(_) | Site::NotBuilt(_) | Site::Attribute(_) => Ok(reached),
+    }
 }
 
 /// Nothing is asked.
@@ -118,6 +121,7 @@ pub fn ask_nothing<P: Starter>(alloc: Global, starter: &P) -> Result<Ran<P::Writ
 }
 
 /// The requests of sites, asked one after another in their order.
+#[tactic(auto, unfolding(expansion_model::specs::Requests::place_of))]
 pub fn ask_sites<P: Starter>(
     alloc: Global,
     starter: &mut P,

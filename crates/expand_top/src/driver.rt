@@ -1,5 +1,5 @@
 // The top call.
-ghost use Rattle.std.specs.Prelude.{◌≡◌, ◌≤◌, ◌<◌, ◌^◌, ◌-◌, [], ◌∷◌, ℕ, List, Option, Some, None, length, map, IfOk, IfSome, OnOk, OnErr, string_bytes, option_map};
+ghost use Rattle.std.specs.Prelude.{◌≡◌, ◌≤◌, ◌<◌, ◌^◌, ◌-◌, if◌then◌else◌, [], ◌∷◌, ℕ, List, Option, Some, None, length, map, IfOk, IfSome, OnOk, OnErr, string_bytes, option_map};
 ghost use Rattle.std.specs.List.{All};
 ghost use Rattle.std.specs.Option.{option_copied};
 ghost use Rattle.swift_base.specs.Outside.{StarterSeen};
@@ -11,11 +11,11 @@ ghost use Rattle.expansion_model.specs.Spans.{LieApart, spans_of};
 ghost use Rattle.link_driver.specs.Links.{link_seen};
 ghost use Rattle.expand_top.specs.declared.command.Command.TheVariants as Command;
 ghost use Rattle.expand_top.specs.Command.{named_in, named_seen, command_named, command_of};
-ghost use Rattle.expand_top.specs.Asking.{IsStartable, IsExpansion, Asks, IsSiteOutput, IsTableAnswer, are_too_many, site_wanted, asking_of};
+ghost use Rattle.expand_top.specs.Asking.{IsStartable, IsExpansion, Asks, IsSiteOutput, IsTableAnswer, all_wanted, asking_of};
 ghost use Rattle.expand_top.specs.Lines.{output_seen};
 ghost use Rattle.expand_top.specs.Meaning.{Means, meaning_of};
 ghost use Rattle.expand_top.specs.Means.{meaning_seen, IsSound, IsSoundSource};
-ghost use Rattle.expand_top.specs.Run.{IsDelivered, GainsAll, GainsFront, ReadsSource, ReadsInputs, IsShort, IsRefused, IsUnwritten, Expands, usage};
+ghost use Rattle.expand_top.specs.Run.{IsDelivered, GainsAll, GainsFront, ReadsSource, ReadsNext, ReadsInputs, IsShort, IsRefused, IsUnwritten, Expands, usage};
 ghost use Rattle.expand_top.specs.Promises.{AskedOnce, LinksServe, Starts, StopsHaveCause, FailedStartsHaveCause, KeepsBytes, StatusHasCause};
 
 use crate::answer::{answer, reports_of};
@@ -77,7 +77,35 @@ fn read_source<F: Files>(alloc: Global, files: &mut F, name: &str) -> Result<Sou
     }
 }
 
-// The file of macros is read first, where one is named; without it the source isn't read.
+// The source is read only where the macros file was.
+fn read_next<F: Files>(
+    alloc: Global,
+    files: &mut F,
+    macros: &SourceRead,
+    name: &str,
+) -> Result<SourceRead, AllocError>
+    ensures { IfOk result (ReadsNext macros.now (F.seen files.old) (F.seen files.new) name.now) }
+{
+    match macros {
+        SourceRead::Bytes(_) => read_source(alloc, files, name),
+        SourceRead::Nothing | SourceRead::Failed | SourceRead::Larger => Ok(SourceRead::Nothing),
+    }
+}
+
+fn read_both<F: Files>(
+    alloc: Global,
+    files: &mut F,
+    file: &str,
+    name: &str,
+) -> Result<Inputs, AllocError>
+    ensures { IfOk result (ReadsInputs (F.seen files.old) (F.seen files.new) (Some file.now) name.now) }
+{
+    let macros = read_source(alloc, files, file)?;
+    let source = read_next(alloc, files, &macros, name)?;
+    Ok(Inputs { macros, source })
+}
+
+// The file of macros is read first, where one is named.
 fn read_inputs<F: Files>(
     alloc: Global,
     files: &mut F,
@@ -86,21 +114,14 @@ fn read_inputs<F: Files>(
 ) -> Result<Inputs, AllocError>
     ensures { IfOk result (ReadsInputs (F.seen files.old) (F.seen files.new) (option_copied macros.entry) name.now) }
 {
-    let macros = match macros {
-        Some(file) => read_source(alloc, files, file)?,
-        None => {
-            let source = read_source(alloc, files, name)?;
-            return Ok(Inputs {
-                macros: SourceRead::Nothing,
-                source,
-            });
-        }
-    };
-    let source = match macros {
-        SourceRead::Bytes(_) => read_source(alloc, files, name)?,
-        _ => SourceRead::Nothing,
-    };
-    Ok(Inputs { macros, source })
+    if let Some(file) = macros {
+        return read_both(alloc, files, file, name);
+    }
+    let source = read_source(alloc, files, name)?;
+    Ok(Inputs {
+        macros: SourceRead::Nothing,
+        source,
+    })
 }
 
 // What is handed back and written.
@@ -142,10 +163,12 @@ fn site_output<P: Starter>(
     let table = Table::from_pairs(alloc, pairs)?;
     let text = source.text.bytes();
     let reports = reports_of(alloc, name, text, macros, &table, sites)?;
-    answer(alloc, name, text, reports)
+    let output = answer(alloc, name, text, reports)?;
+    Ok(output)
 }
 
-fn expand_sites<P: Starter>(
+// The sites where these requests are not too many.
+fn expand_asked<P: Starter>(
     alloc: Global,
     starter: &mut P,
     name: &[u8],
@@ -158,18 +181,41 @@ fn expand_sites<P: Starter>(
     requires commands { All IsStartable plugins.now }
     requires readable { All (IsSiteReadable source.now.text) sites.now }
     requires apart { LieApart 0 (length source.now.text) (spans_of sites.now) }
-    ensures asks { IfOk result (λ e. Asks (site_wanted name.now plugins.now source.now.text sites.now)
+    ensures asks { IfOk result (λ e. Asks (all_wanted name.now plugins.now source.now.text sites.now)
         (asking_of (map (link_seen P.Writer.seen P.Reader.seen) e.links.items) e.unstarted.items (P.seen starter.old) (P.seen starter.new))) }
-    ensures writes { IfOk result (λ e. IsSiteOutput (are_too_many sites.now) name.now source.now.text macros.now sites.now
+    ensures writes { IfOk result (λ e. IsTableAnswer name.now source.now.text macros.now sites.now
         (asking_of (map (link_seen P.Writer.seen P.Reader.seen) e.links.items) e.unstarted.items (P.seen starter.old) (P.seen starter.new)) (output_seen e.output)) }
 {
-    if are_too_many(sites) {
-        let output = refuses(alloc, name, 1, 1, TOO_MANY_REQUESTS)?;
-        return Ok(expanded_with(ask_nothing(alloc, starter)?, output));
-    }
     let ran = ask_sites(alloc, starter, name, plugins, source.text.bytes(), sites)?;
     let output = site_output::<P>(alloc, name, source, macros, sites, &ran)?;
     Ok(expanded_with(ran, output))
+}
+
+fn expand_sites<P: Starter>(
+    alloc: Global,
+    starter: &mut P,
+    name: &[u8],
+    plugins: &[Plugin],
+    source: &Outline,
+    macros: &MacroTable,
+    sites: &[Site],
+    many: bool,
+) -> Result<Expansion<P::Writer, P::Reader>, AllocError>
+    requires short { length source.now.text < 2 ^ 32 - 1 }
+    requires commands { All IsStartable plugins.now }
+    requires readable { All (IsSiteReadable source.now.text) sites.now }
+    requires apart { LieApart 0 (length source.now.text) (spans_of sites.now) }
+    ensures asks { IfOk result (λ e. Asks (if many then [] else all_wanted name.now plugins.now source.now.text sites.now)
+        (asking_of (map (link_seen P.Writer.seen P.Reader.seen) e.links.items) e.unstarted.items (P.seen starter.old) (P.seen starter.new))) }
+    ensures writes { IfOk result (λ e. IsSiteOutput many name.now source.now.text macros.now sites.now
+        (asking_of (map (link_seen P.Writer.seen P.Reader.seen) e.links.items) e.unstarted.items (P.seen starter.old) (P.seen starter.new)) (output_seen e.output)) }
+{
+    if many {
+        let output = refuses(alloc, name, 1, 1, TOO_MANY_REQUESTS)?;
+        return Ok(expanded_with(ask_nothing(alloc, starter)?, output));
+    }
+    let expansion = expand_asked(alloc, starter, name, plugins, source, macros, sites)?;
+    Ok(expansion)
 }
 
 fn expand_source<P: Starter>(
@@ -188,7 +234,10 @@ fn expand_source<P: Starter>(
 {
     sites_lie_apart();
     let sites = sites(alloc, source, macros, plugins)?;
-    expand_sites(alloc, starter, name, plugins.list(), source, macros, &sites)
+    let many = are_too_many(&sites);
+    let plugins = plugins.list();
+    let expansion = expand_sites(alloc, starter, name, plugins, source, macros, &sites, many)?;
+    Ok(expansion)
 }
 
 // What is asked and written for what the files mean.

@@ -1,11 +1,11 @@
 // What the files of a command mean: a source with its macros, or a refusal.
-ghost use Rattle.std.specs.Prelude.{◌≡◌, ◌++◌, ◌∷◌, [], ◌<◌, ◌-◌, ◌^◌, IfOk, length, map, option_map};
+ghost use Rattle.std.specs.Prelude.{◌≡◌, ◌++◌, ◌∷◌, [], ◌<◌, ◌≤◌, ◌-◌, ◌^◌, IfOk, IfSome, length, map, option_map, slice_get};
 ghost use Rattle.std.specs.Option.{option_copied};
 ghost use Rattle.swift_tree.specs.Outlines.{OutlineSeen, outline_of};
 ghost use Rattle.macro_decls.specs.Macros.{macros};
 ghost use Rattle.expansion_model.specs.Requests.{place_of, IsPlaceIn};
 ghost use Rattle.expand_top.specs.Faults.{fault_text, too_large};
-ghost use Rattle.expand_top.specs.Lines.{refuses, refuses_at, unread};
+ghost use Rattle.expand_top.specs.Lines.{faults, output_seen, refuses, refuses_at, unread};
 ghost use Rattle.expand_top.specs.Meaning.{Refused, named_seen, by_table, fault_line, fault_lines, table_meaning, by_outline, source_meaning, text_meaning, by_source, by_file, meaning_of};
 ghost use Rattle.expand_top.specs.Means.{meaning_seen, declared_seen, option_list, IsAt, IsShortText, AreShort, IsSoundSource, IsSound, AreReadable};
 ghost use Rattle.expand_top.specs.Run.{IsShort};
@@ -19,7 +19,7 @@ use decl_parser::{ParseFault, ParseKind, outline_keeps_the_text, parse_file};
 use expansion_model::{FIRST_PLACE, Place, place_from};
 use macro_decls::{MacroFault, MacroTable};
 use std::alloc::{AllocError, Global};
-use swift_base::Refusal;
+use swift_base::{Listed, Refusal};
 use swift_tree::Outline;
 
 /// What the files of a command mean.
@@ -38,19 +38,34 @@ struct At {
     place: Place,
 }
 
+#[tactic(auto, unfolding(expansion_model::specs::Requests::place_of))]
 fn place_in(text: &[u8], from: At, fault: &MacroFault) -> Place
-    requires short { length text.now < 2 ^ 32 - 1 }
+    requires short { length text.now ≤ 4194304 }
     requires from { from.outline ≡ fault.now.outline → IsPlaceIn text.now from.place }
     ensures { result ≡ place_of text.now fault.now.at }
 {
-    let start = if from.outline == fault.outline {
-        from.place
-    } else {
-        FIRST_PLACE
-    };
-    place_from(text, start, fault.at)
+    if from.outline == fault.outline {
+        return place_from(text, from.place, fault.at);
+    }
+    place_from(text, FIRST_PLACE, fault.at)
 }
 
+fn file_at<'a>(files: &[NamedText<'a>], outline: u32) -> Option<NamedText<'a>>
+    ensures { option_map named_seen result ≡ slice_get (map named_seen files.now) outline }
+{
+    files.get(outline as usize).copied()
+}
+
+// The file of a number.
+fn file_of<'a>(files: &[NamedText<'a>], outline: u32) -> Option<NamedText<'a>>
+    requires { AreShort (map named_seen files.now) }
+    ensures file { option_map named_seen result ≡ slice_get (map named_seen files.now) outline }
+    ensures short { IfSome result (λ named. IsShortText (named_seen named)) }
+{
+    file_at(files, outline)
+}
+
+#[tactic(auto, unfolding(expansion_model::specs::Requests::place_of))]
 fn put_fault(
     alloc: Global,
     files: &[NamedText<'_>],
@@ -63,7 +78,7 @@ fn put_fault(
     ensures lines { IfOk result (λ _. lines.new.items ≡ lines.old.items ++ fault_line (map named_seen files.now) fault.now) }
     ensures at { IfOk result (IsAt (map named_seen files.now)) }
 {
-    let Some(named) = files.get(fault.outline as usize) else {
+    let Some(named) = file_of(files, fault.outline) else {
         return Ok(from);
     };
     let place = place_in(named.text, from, fault);
@@ -77,6 +92,7 @@ fn put_fault(
 }
 
 // The lines of the faults of declarations.
+#[tactic(auto, unfolding(expansion_model::specs::Requests::place_of))]
 fn fault_lines(
     alloc: Global,
     files: &[NamedText<'_>],
@@ -105,13 +121,25 @@ enum Declared {
 
 // All of one lifetime, as the table of macros takes them.
 fn borrowed(alloc: Global, outlines: &[Outline]) -> Result<Vec<&Outline>, AllocError>
-    ensures { IfOk result (λ list. map (λ o. o.now) list.items ≡ outlines.now) }
+    ensures { IfOk result (λ list. map (λ o. outline_of o.now) list.items ≡ map outline_of outlines.now) }
 {
     let mut list = Vec::new(alloc);
     'outlines: for outline in outlines {
         list.push(outline)?;
     }
     Ok(list)
+}
+
+fn fault_output(
+    alloc: Global,
+    files: &[NamedText<'_>],
+    found: &Listed<MacroFault>,
+) -> Result<Output, AllocError>
+    requires { AreShort (map named_seen files.now) }
+    ensures { IfOk result (λ output. output_seen output ≡ faults (fault_lines (map named_seen files.now) found.now)) }
+{
+    let lines = fault_lines(alloc, files, found.items())?;
+    Ok(faults(alloc, lines))
 }
 
 fn declare(
@@ -129,8 +157,8 @@ fn declare(
         Ok(table) => Ok(Declared::Table(table)),
         Err(Refusal::Memory) => Err(AllocError),
         Err(Refusal::Fault(found)) => {
-            let lines = fault_lines(alloc, files, found.items())?;
-            Ok(Declared::Refused(faults(alloc, lines)))
+            let output = fault_output(alloc, files, &found)?;
+            Ok(Declared::Refused(output))
         }
     }
 }
@@ -171,6 +199,18 @@ fn table_meaning(
     }
 }
 
+fn joined<'a>(
+    alloc: Global,
+    files: &[NamedText<'a>],
+    source: NamedText<'a>,
+) -> Result<Vec<NamedText<'a>>, AllocError>
+    ensures { IfOk result (λ list. map named_seen list.items ≡ map named_seen files.now ++ named_seen source.entry ∷ []) }
+{
+    let mut all = Vec::from_slice(alloc, files)?;
+    all.push(source)?;
+    Ok(all)
+}
+
 #[tactic(auto, unfolding(crate::specs::Meaning::source_meaning))]
 fn source_meaning<'a>(
     alloc: Global,
@@ -187,8 +227,7 @@ fn source_meaning<'a>(
     outline_keeps_the_text();
     match parse_file(alloc, source.text) {
         Ok(outline) => {
-            let mut all = Vec::from_slice(alloc, files)?;
-            all.push(source)?;
+            let all = joined(alloc, files, source)?;
             table_meaning(alloc, &all, before, outline)
         }
         Err(Refusal::Memory) => Err(AllocError),

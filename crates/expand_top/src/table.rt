@@ -19,10 +19,7 @@ impl Table {
     pub fn from_pairs(alloc: Global, pairs: Vec<(Key, Outcome)>) -> Result<Table, AllocError>
         ensures { IfOk result (λ table. Tells (look table) pairs.items) }
     {
-        let mut outcomes = IndexMap::new(alloc);
-        'pairs: for (key, outcome) in pairs {
-            outcomes.insert(key, outcome)?;
-        }
+        let outcomes = pairs.into_iter().collect(alloc)?;
         Ok(Table { outcomes })
     }
 

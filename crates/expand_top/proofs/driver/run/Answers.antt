@@ -1,6 +1,6 @@
 use Rattle.std.proofs.Common.{sym, ◌∙◌}
-use Rattle.link_driver.proofs.Runs.{runs_ask_once, processes_serve, stops_have_causes, runs_give_links, runs_start_as_wanted, failed_starts_have_causes}
-use Rattle.expand_top.proofs.Promises.{keeps_bytes, status_has_cause, none_some, links_serve}
+use Rattle.link_driver.proofs.Runs.{runs_ask_once, stops_have_causes, runs_give_links, runs_start_as_wanted, failed_starts_have_causes}
+use Rattle.expand_top.proofs.Promises.{keeps_bytes, status_has_cause, none_some, links_served}
 use Rattle.expand_top.proofs.driver.run.Goals as goal
 
 pub returns-clause-output : goal.returns-clause-output
@@ -18,7 +18,7 @@ returns-in_default-clause-asked_once g c = λ name macros plugins is. absurd (no
 
 pub returns-clause-links_serve : goal.returns-clause-links_serve
 returns-clause-links_serve g c = λ name macros plugins is ok.
-    let done = c.run_named.ensures.expanded name macros plugins (sym c.in-Some.ensures.some ∙ is) ok in links_serve c.only_last_keys_fail.ensures _ _ _ _ _ (processes_serve _ _ _ _ _ done.expands.asks)
+    let done = c.run_named.ensures.expanded name macros plugins (sym c.in-Some.ensures.some ∙ is) ok in links_served c.only_last_keys_fail.ensures macros name plugins _ _ done.output done.expands
 
 pub returns-in_default-clause-links_serve : goal.returns-in_default-clause-links_serve
 returns-in_default-clause-links_serve g c = λ name macros plugins is. absurd (none_some _ (sym c.in_default.ensures.none ∙ is))
