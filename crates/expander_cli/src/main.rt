@@ -1,4 +1,4 @@
-//! The program `expander_cli`: expands the macro use of a Swift file by asking plug-in processes.
+//! The program `expander_cli`: expands the macro uses of a Swift file by asking plug-in processes.
 //! All that it does is the call `run` of `expand_top`, over real files, standard streams and child processes.
 //! What these really carry is left to the operating system.
 #![tactic(auto)]
