@@ -7,7 +7,7 @@ use Rattle.expand_top.specs.Asking.{are_too_many}
 use Rattle.expand_top.proofs.driver.expand_source.Goals as goal
 
 pub expand_sites-requires-clause-apart : goal.expand_sites-requires-clause-apart
-expand_sites-requires-clause-apart g c = λ κs.
+expand_sites-requires-clause-apart g c = λ κs lives.
     subst (λ (l : List Site). LieApart 0 (length c.args.source.now.text) (spans_of l)) (sym (c.deref-2.ensures.value ∙ c.in_ok-sites.ensures.sites))
     (c.sites_lie_apart.ensures c.args.source.now.text File (outline_of c.args.source.now) c.args.macros.now c.args.plugins.now c.requires.sound.0)
 
