@@ -22,7 +22,7 @@ use Rattle.link_driver.specs.Links.{KeySteps, LinkSeen}
 use Rattle.link_driver.specs.Requests.{Wanted}
 use Rattle.result_splice.specs.Edits.{IsEdited}
 use Rattle.result_splice.specs.declared.edit.Edit.{Edit}
-use Rattle.expand_top.specs.Answer.{ IsByLines, IsByMissing, is_line, is_missing, edits_in, reports_of}
+use Rattle.expand_top.specs.Answer.{IsByLines, IsByMissing, is_line, is_missing, edits_in, reports_of}
 use Rattle.expand_top.specs.Asking.{Asking, IsExpansion, IsOutputOf, IsSiteOutput, are_too_many}
 use Rattle.expand_top.specs.Lines.{Output}
 use Rattle.expand_top.specs.Meaning.{Meaning, Refused, Means, NamedText, by_table, table_meaning, by_outline, source_meaning, by_macros, text_meaning, by_source, by_file, meaning_of}
@@ -136,9 +136,11 @@ module _ (name text : List ℕ) (declared : List MacroDecl) (table : KeySteps �
   lines_kept : (line : Bool) → list_any is_missing (reports_of name text declared table sites) ≡ false → list_any is_line (reports_of name text declared table sites) ≡ line
       → IsByLines line text (reports_of name text declared table sites) output → Kept text (spans_of sites) output
   lines_kept true there is answer = no_zero output 0 (ap (λ (w : Output). w.status) answer) zero
-  lines_kept false there is answer =
-      (edits_in (reports_of name text declared table sites), reports_replace name text declared table sites there is,
-      subst (IsEdited text (edits_in (reports_of name text declared table sites))) (sym (ap (λ (w : Output). w.out) answer.2)) answer.1)
+  lines_kept false there is answer = (
+    edits_in (reports_of name text declared table sites),
+    reports_replace name text declared table sites there is,
+    subst (IsEdited text (edits_in (reports_of name text declared table sites))) (sym (ap (λ (w : Output). w.out) answer.2)) answer.1,
+  )
 
   missing_kept : (missing : Bool) → list_any is_missing (reports_of name text declared table sites) ≡ missing → IsByMissing missing name text (reports_of name text declared table sites) output
       → Kept text (spans_of sites) output

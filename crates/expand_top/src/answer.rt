@@ -11,9 +11,7 @@ ghost use Rattle.expand_top.specs.Table.{look};
 ghost use Rattle.expand_top.specs.declared.answer.Report.TheVariants as Report;
 ghost use Rattle.expand_top.specs.declared.splice.Splice.TheVariants.{Refused};
 
-use crate::faults::{
-    NOT_BUILT, TOO_MANY_BYTES, fault_text, no_reply_text, site_fault_text,
-};
+use crate::faults::{NOT_BUILT, TOO_MANY_BYTES, fault_text, no_reply_text, site_fault_text};
 use crate::report::{Output, error_at, error_line, faults, prints, refuses};
 use crate::slices::{add, front};
 use crate::splice::{Splice, splice_of};
@@ -153,10 +151,12 @@ fn outcome_report(
             let message = no_reply_text(alloc, ask.target.module.bytes())?;
             line(alloc, name, text, place, &message)
         }
-        Some(Outcome::Reply {
-            text: reply,
-            diagnostics,
-        }) => {
+        Some(
+            Outcome::Reply {
+                text: reply,
+                diagnostics,
+            },
+        ) => {
             let reply = reply.as_ref().map(|reply| reply.bytes());
             let diagnostics = diagnostics.items();
             reply_report(alloc, name, text, macros, place, ask, reply, diagnostics)

@@ -114,7 +114,10 @@ fn ask_site<P: Starter>(
 }
 
 /// Nothing is asked.
-pub fn ask_nothing<P: Starter>(alloc: Global, starter: &P) -> Result<Ran<P::Writer, P::Reader>, AllocError>
+pub fn ask_nothing<P: Starter>(
+    alloc: Global,
+    starter: &P,
+) -> Result<Ran<P::Writer, P::Reader>, AllocError>
     ensures { IfOk result (λ ran. HasRun [] (P.seen starter.now) (map (link_seen P.Writer.seen P.Reader.seen) ran.links.items) ran.unstarted.items (P.seen starter.now)) }
 {
     finish(Driver::new(alloc))

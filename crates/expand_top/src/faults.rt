@@ -54,11 +54,7 @@ pub fn quoting(
 }
 
 /// One row a kind of fault of a macro's declaration, by the macro's name.
-pub fn macro_fault_text(
-    alloc: Global,
-    kind: MacroKind,
-    name: &[u8],
-) -> Result<Vec<u8>, AllocError>
+pub fn macro_fault_text(alloc: Global, kind: MacroKind, name: &[u8]) -> Result<Vec<u8>, AllocError>
     ensures { IfOk result (λ v. v.items ≡ macro_fault_text kind name.now) }
 {
     match kind {
@@ -82,13 +78,21 @@ pub fn site_fault_text(alloc: Global, kind: SiteKind, name: &[u8]) -> Result<Vec
 {
     match kind {
         SiteKind::UnknownMacro => quoting(alloc, b"no macro named '", name, b"'"),
-        SiteKind::LocalAttached => quoting(alloc, b"macro '", name, b"' is attached in a local place"),
+        SiteKind::LocalAttached => quoting(
+            alloc,
+            b"macro '",
+            name,
+            b"' is attached in a local place",
+        ),
         SiteKind::WrongRole => quoting(alloc, b"macro '", name, b"' has no role for this place"),
         SiteKind::NotOneBinding => {
             Vec::from_slice(alloc, b"an accessor macro needs a variable with one name")
         }
         SiteKind::AccessorOnBody => {
-            Vec::from_slice(alloc, b"an accessor macro needs a variable without a getter block")
+            Vec::from_slice(
+                alloc,
+                b"an accessor macro needs a variable without a getter block",
+            )
         }
         SiteKind::NoPlugin => quoting(alloc, b"no plug-in for module '", name, b"'"),
     }

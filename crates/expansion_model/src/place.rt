@@ -25,7 +25,11 @@ pub fn place_from(text: &[u8], from: Place, offset: u32) -> Place
     ensures { result ≡ place_of text.now offset }
 {
     let end = text.len().min(offset as usize);
-    let start = if from.at as usize > end { FIRST_PLACE } else { from };
+    let start = if from.at as usize > end {
+        FIRST_PLACE
+    } else {
+        from
+    };
     let (mut at, mut line, mut column) = (start.at as usize, start.line, start.column);
     'bytes: while at < end {
         if text[at] == b'\n' {

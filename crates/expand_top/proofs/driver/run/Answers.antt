@@ -57,4 +57,3 @@ returns-clause-status g c = λ name macros plugins is ok.
 
 pub returns-in_default-clause-status : goal.returns-in_default-clause-status
 returns-in_default-clause-status g c = λ name macros plugins is. absurd (none_some _ (sym c.in_default.ensures.none ∙ is))
-
