@@ -99,7 +99,8 @@ fn close_group(
     if !closes(text, left, right) {
         return Err(refusal_at(right, GroupKind::Mismatched));
     }
-    let inner = mem::replace(&mut grouping.here, before);
+    let mut inner = mem::replace(&mut grouping.here, before);
+    inner.shrink_to_fit();
     grouping.here.push(nest_of(left, inner, right))?;
     Ok(())
 }
