@@ -1,6 +1,6 @@
 // Tokens into bracket groups.
 
-ghost use Rattle.std.specs.Prelude.{◌≡◌, ℕ, List, [], Ok, slice_index};
+ghost use Rattle.std.specs.Prelude.{◌≡◌, ℕ, List, [], IfOk, Ok, slice_index};
 ghost use Rattle.swift_lexer.specs.Answers.{Answers};
 ghost use Rattle.swift_lexer.specs.Groups.{IsGrouped};
 ghost use Rattle.swift_lexer.specs.Openings.{Stands, Takes};
@@ -14,7 +14,7 @@ use crate::bytes::is_bracket_pair;
 use crate::element::{DEEPEST, Element, GroupFault, GroupKind};
 use crate::refusal::Refusal;
 use crate::token::{Class, Token};
-use std::alloc::Global;
+use std::alloc::{AllocError, Global};
 use std::mem;
 
 /// A left bracket that is still open, and what stands before it on its level.
@@ -24,11 +24,13 @@ pub struct OpenGroup {
     pub left: Token,
 }
 
-/// The open brackets from the outermost on, and what stands on the innermost level.
+/// The open brackets from the outermost on, and what stands on the innermost level. `spares` are lists of groups
+/// that were closed, whose room the next ones take.
 #[derive(Drop)]
 pub struct Grouping {
     pub levels: Vec<OpenGroup>,
     pub here: Vec<Element>,
+    pub spares: Vec<Vec<Element>>,
 }
 
 /// The tokens of a text in bracket groups, or the first fault of its brackets.
@@ -43,6 +45,7 @@ pub fn group(
     let mut grouping = Grouping {
         levels: Vec::new(alloc),
         here: Vec::new(alloc),
+        spares: Vec::new(alloc),
     };
     for token in tokens {
         take(alloc, &mut grouping, *token, text)?;
@@ -60,7 +63,7 @@ fn take(
 {
     match token.class {
         Class::LeftBracket => open_group(alloc, grouping, token),
-        Class::RightBracket => close_group(grouping, token, text),
+        Class::RightBracket => close_group(alloc, grouping, token, text),
         _ => {
             grouping.here.push(leaf_of(token))?;
             Ok(())
@@ -80,12 +83,27 @@ fn open_group(
     if depth >= DEEPEST {
         return Err(refusal_at(left, GroupKind::TooDeep));
     }
-    let before = mem::replace(&mut grouping.here, Vec::new(alloc));
+    let empty = empty_list(alloc, &mut grouping.spares);
+    let before = mem::replace(&mut grouping.here, empty);
     grouping.levels.push(OpenGroup { before, left })?;
     Ok(())
 }
 
+/// An empty list, one that was used before where there is one.
+fn empty_list(alloc: Global, spares: &mut Vec<Vec<Element>>) -> Vec<Element>
+    ensures { result.items ≡ [] }
+{
+    match spares.pop() {
+        Some(mut list) => {
+            list.clear();
+            list
+        }
+        None => Vec::new(alloc),
+    }
+}
+
 fn close_group(
+    alloc: Global,
     grouping: &mut Grouping,
     right: Token,
     text: &[u8],
@@ -99,16 +117,32 @@ fn close_group(
     if !closes(text, left, right) {
         return Err(refusal_at(right, GroupKind::Mismatched));
     }
-    let mut inner = mem::replace(&mut grouping.here, before);
-    inner.shrink_to_fit();
+    let mut used = mem::replace(&mut grouping.here, before);
+    let Ok(inner) = taken_out(alloc, &mut used) else {
+        return Err(Refusal::Memory);
+    };
+    grouping.spares.push(used)?;
     grouping.here.push(nest_of(left, inner, right))?;
     Ok(())
+}
+
+/// The elements of the list, in no more room than they need.
+fn taken_out(alloc: Global, list: &mut Vec<Element>) -> Result<Vec<Element>, AllocError>
+    ensures { IfOk result (λ taken. taken.items ≡ list.old.items) }
+{
+    let mut taken = Vec::with_capacity(alloc, list.len())?;
+    taken.append(list)?;
+    Ok(taken)
 }
 
 fn finish(grouping: Grouping) -> Result<Vec<Element>, Refusal<GroupFault>>
     ensures { (text : List ℕ) (tokens : List Token) → Stands text tokens grouping [] → Answers (λ elements. forest_of elements.items) result (IsGrouped text tokens) }
 {
-    let Grouping { mut levels, here } = grouping;
+    let Grouping {
+        mut levels,
+        here,
+        spares: _,
+    } = grouping;
     match levels.pop() {
         Some(group) => Err(refusal_at(group.left, GroupKind::Unclosed)),
         None => Ok(here),

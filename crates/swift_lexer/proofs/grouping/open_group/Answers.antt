@@ -12,4 +12,4 @@ returns-then-depth-ge-DEEPEST c = λ text.
 pub returns : goal.returns
 returns c = λ text.
     let pushed = chosen _ _ _ _ c.push.ensures.items (ap is_ok c.in_ok-push.was) in
-    Passes-open text c.args.left c.args.grouping.now _ _ pushed c.replace-before.ensures.value refl (ap (λ v. v.items) c.replace-before.ensures.after ∙ c.new.ensures.items) c.requires (omega (arith, c.args.grouping.now.levels.ok.0))
+    Passes-open text c.args.left c.args.grouping.now _ _ pushed c.replace-before.ensures.value refl (ap (λ v. v.items) c.replace-before.ensures.after ∙ c.empty_list-empty.ensures) c.requires (omega (arith, c.args.grouping.now.levels.ok.0))
