@@ -3,9 +3,10 @@ use Rattle.std.proofs.Common.{◌≡◌, refl, ℕ, zero, suc, ◌+◌, ◌-◌,
 use Rattle.std.proofs.lemmas.Bool.{cases_eq, ne_eqb}
 use Rattle.element_marks.specs.declared.mark.Mark.{Mark}
 use Rattle.std.specs.List.{list_any}
-use Rattle.swift_lexer.specs.Trees.{Tree, leaf, nest, Forest, none, cons}
+use Rattle.swift_lexer.specs.declared.element.Element.{Element}
+use Rattle.swift_lexer.specs.Trees.{Tree, leaf, nest, Forest, forest_of, none, cons}
 use Rattle.element_marks.specs.Marks.{mark_between, mark_of}
-use Rattle.element_marks.specs.Heads.{angles, angles_from, with_angles, with_joins}
+use Rattle.element_marks.specs.Heads.{angles, angles_from, with_angles, with_joins, with_modifiers}
 use Rattle.element_marks.specs.Levels.{own_marks}
 use Rattle.element_marks.specs.Passes.{AnglesUnset, closes_of, opens_of}
 use Rattle.element_marks.proofs.Further.{further, further_further, further_less, further_zero}
@@ -145,6 +146,23 @@ unset_of text (nest left inner right) = refl
 pub own_unset : (text : List ℕ) (forest : Forest) → AnglesUnset (own_marks text forest)
 own_unset text none = tt
 own_unset text (cons tree forest) = (unset_of text tree, own_unset text forest)
+
+pub length_own : (text : List ℕ) (elements : List Element) → length (own_marks text (forest_of elements)) ≡ length elements
+length_own text [] = refl
+length_own text (element ∷ elements) = ap suc (length_own text elements)
+
+-- the passes leave a list as long as it was
+pub length_joins : (previous : Option Mark) (marks : List Mark) → length (with_joins previous marks) ≡ length marks
+length_joins previous [] = refl
+length_joins previous (mark ∷ marks) = ap suc (length_joins (Some mark) marks)
+
+pub length_angles : (marks : List Mark) → length (with_angles marks) ≡ length marks
+length_angles [] = refl
+length_angles (mark ∷ marks) = ap suc (length_angles marks)
+
+pub length_modifiers : (marks : List Mark) → length (with_modifiers marks) ≡ length marks
+length_modifiers [] = refl
+length_modifiers (mark ∷ marks) = ap suc (length_modifiers marks)
 
 pub joins_unset : (previous : Option Mark) (marks : List Mark) → AnglesUnset marks → AnglesUnset (with_joins previous marks)
 joins_unset previous [] unset = tt

@@ -3,6 +3,7 @@ use Rattle.std.proofs.Common.{◌≡◌, refl, ℕ, zero, suc, ◌+◌, ◌==◌
 use Rattle.std.specs.Str.{bytes_eq}
 use Rattle.swift_lexer.specs.declared.token.Class.{Class}
 use Rattle.swift_lexer.specs.declared.token.Class.TheVariants as class
+use Rattle.swift_lexer.specs.declared.token.Token.{Token}
 use Rattle.swift_lexer.specs.Tiles.{bytes_of}
 use Rattle.swift_base.specs.declared.place.Span.{Span}
 use Rattle.swift_lexer.specs.Trees.{Tree, leaf, nest, Forest, none, cons}
@@ -11,9 +12,10 @@ use Rattle.element_marks.specs.declared.mark.Sort.{Sort}
 use Rattle.element_marks.specs.declared.mark.Sort.TheVariants as sort
 use Rattle.element_marks.specs.Words.{is_accessor, is_accessor_modifier, is_class, is_modifier, is_observer}
 use Rattle.element_marks.specs.Sorts.{is_arguments, is_braces, is_at, is_at_sort, is_name, is_use, is_use_sort}
-use Rattle.element_marks.specs.Marks.{mark_between, mark_of, leaf_sort, mark_sort, operator_sort, group_sort}
+use Rattle.element_marks.specs.Marks.{mark_between, mark_of, leaf_keyword, leaf_sort, mark_sort, operator_sort, group_sort}
 use Rattle.element_marks.specs.Heads.{attribute_length, by_length, first_is, in_list, modifier_length, name_tail, prefix_length, with_angles, with_heads, with_joins, with_modifiers}
 use Rattle.element_marks.specs.Levels.{level, own_marks}
+use Rattle.element_marks.specs.Spans.{name_between, name_of}
 use Rattle.element_marks.specs.Quiet.{front, is_quiet, is_quiet_class, may_list_accessors}
 use Rattle.element_marks.specs.Accessors.{accessor_front, accessor_length, one_if, is_some, lists_accessors, observes_from, word_from}
 use Rattle.element_marks.specs.Uses.{call_length, closures_length, use_length}
@@ -22,6 +24,21 @@ pub sort_is : (text : List ℕ) (tree : Tree) → leaf_sort (front tree).class (
 unfolding mark_between
 sort_is text (leaf token) = refl
 sort_is text (nest left inner right) = refl
+
+pub keyword_is : (text : List ℕ) (tree : Tree) → leaf_keyword (front tree).class (bytes_of text (front tree)) ≡ (mark_of text tree).keyword
+unfolding mark_between
+keyword_is text (leaf token) = refl
+keyword_is text (nest left inner right) = refl
+
+start_is : (text : List ℕ) (tree : Tree) → (front tree).start ≡ (mark_of text tree).start
+unfolding mark_between
+start_is text (leaf token) = refl
+start_is text (nest left inner right) = refl
+
+pub name_is : (text : List ℕ) (tree : Tree) (token : Token) (end : ℕ) (sort : Sort) → token ≡ front tree → end ≡ (mark_of text tree).end → sort ≡ (mark_of text tree).sort → name_between token.start end sort ≡ name_of (mark_of text tree)
+name_is text tree token end sort begins ends is =
+    let start : token.start ≡ (mark_of text tree).start = ap (λ t. t.start) begins ∙ start_is text tree in
+    λ i. name_between (start i) (ends i) (is i)
 
 -- an element without what its neighbours make of it
 abbrev pub bare : Mark → Mark

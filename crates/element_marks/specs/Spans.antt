@@ -2,7 +2,8 @@
 use Rattle.std.specs.Prelude.{ℕ, ◌+◌, ◌-◌, min, List, [], ◌∷◌, Option, Some, None, if◌then◌else◌}
 use Rattle.swift_base.specs.declared.place.Span.{Span}
 use Rattle.element_marks.specs.declared.mark.Mark.{Mark}
-use Rattle.element_marks.specs.Sorts.{is_quoted}
+use Rattle.element_marks.specs.declared.mark.Sort.{Sort}
+use Rattle.element_marks.specs.Sorts.{is_quoted, is_quoted_sort}
 
 abbrev pub span_of : Mark → Span
 span_of mark = record { start = mark.start; end = mark.end }
@@ -18,6 +19,10 @@ between mark = record { start = min (mark.start + 1) mark.end; end = mark.end - 
 -- a name's own text: what stands between the backquotes, where there are any
 abbrev pub name_of : Mark → Span
 name_of mark = if is_quoted mark then between mark else span_of mark
+
+-- the same of an element of the sort from its first byte to its end
+abbrev pub name_between : ℕ → ℕ → Sort → Span
+name_between start end sort = if is_quoted_sort sort then record { start = min (start + 1) end; end = end - 1 } else record { start = start; end = end }
 
 -- the end of the last element
 abbrev pub end_of : ℕ → List Mark → ℕ

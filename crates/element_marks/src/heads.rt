@@ -117,7 +117,7 @@ pub fn first_angles(marks: &[Mark]) -> usize
     ensures bound { result ≤ length marks.now }
 {
     match marks.first() {
-        Some(mark) => mark.angles.min(marks.len()),
+        Some(mark) => (mark.angles as usize).min(marks.len()),
         None => 0,
     }
 }
@@ -220,7 +220,7 @@ fn known_head(marks: &[Mark]) -> usize
     ensures bound { result ≤ length marks.now }
 {
     match marks.first() {
-        Some(mark) => mark.head,
+        Some(mark) => mark.head as usize,
         None => 0,
     }
 }

@@ -1,6 +1,6 @@
 // The elements of a list, each by its own text and by its neighbours.
 
-ghost use Rattle.std.specs.Prelude.{◌≡◌, ◌+◌, ◌-◌, ◌<◌, ◌≤◌, ◌^◌, replicate, None, IfOk, IfSome, OnOk, if◌then◌else◌};
+ghost use Rattle.std.specs.Prelude.{◌≡◌, ◌+◌, ◌-◌, ◌<◌, ◌≤◌, ◌^◌, length, replicate, None, IfOk, IfSome, OnOk, if◌then◌else◌};
 ghost use Rattle.std.specs.List.{list_any};
 ghost use Rattle.swift_lexer.specs.Trees.{forest_of};
 ghost use Rattle.element_marks.specs.Heads.{in_list, with_angles, with_heads, with_joins, with_modifiers};
@@ -13,11 +13,14 @@ use crate::marks::{joins, mark_of};
 use std::alloc::{AllocError, Global};
 use swift_lexer::Element;
 
-/// The marks of the elements of a list.
+/// The marks of the elements of a list, which a memory can't hold where they are 2 ^ 32 or more.
 #[tactic(auto, unfolding(crate::specs::Levels::level))]
 pub fn marks_in(alloc: Global, text: &[u8], elements: &[Element]) -> Result<Vec<Mark>, AllocError>
     ensures { IfOk result (λ marks. marks.items ≡ level text.now (forest_of elements.now)) }
 {
+    if elements.len() > u32::MAX as usize {
+        return Err(AllocError);
+    }
     let mut marks = own_marks(alloc, text, elements)?;
     set_neighbours(alloc, &mut marks)?;
     Ok(marks)
@@ -37,7 +40,8 @@ fn own_marks(alloc: Global, text: &[u8], elements: &[Element]) -> Result<Vec<Mar
 /// What the elements are by their neighbours, in one pass for each field.
 #[tactic(auto, unfolding(crate::specs::Heads::in_list))]
 fn set_neighbours(alloc: Global, marks: &mut [Mark]) -> Result<(), AllocError>
-    requires { AnglesUnset marks.old }
+    requires unset { AnglesUnset marks.old }
+    requires few { length marks.old < 2 ^ 32 }
     ensures { OnOk result (marks.new ≡ in_list marks.old) }
 {
     set_joins(marks);
@@ -60,7 +64,8 @@ fn set_joins(marks: &mut [Mark])
 
 /// Where no element begins an angle part, none is to be set.
 fn set_angles(alloc: Global, marks: &mut [Mark]) -> Result<(), AllocError>
-    requires { AnglesUnset marks.old }
+    requires unset { AnglesUnset marks.old }
+    requires few { length marks.old < 2 ^ 32 }
     ensures { OnOk result (marks.new ≡ with_angles marks.old) }
 {
     if !begins_angle(marks) {
@@ -80,10 +85,10 @@ fn begins_angle(marks: &[Mark]) -> bool
     marks.iter().any(|mark| mark.begins_angle)
 }
 
-fn empty_table(alloc: Global, size: usize) -> Result<Vec<usize>, AllocError>
+fn empty_table(alloc: Global, size: usize) -> Result<Vec<u32>, AllocError>
     ensures { IfOk result (λ table. table.items ≡ replicate size 0) }
 {
-    Ok(vec![in alloc; 0usize; size]?)
+    Ok(vec![in alloc; 0u32; size]?)
 }
 
 /// How many `<` and `>` there are, as long as a text can have so many.
@@ -106,16 +111,17 @@ fn angle_sums(marks: &[Mark]) -> Option<(usize, usize)>
 
 /// The angle parts, from the last element to the first: `behind` has for each angle depth how many elements the
 /// list has up to the nearest one, from here on, behind which that depth is reached.
-fn fill_angles(behind: &mut [usize], opened: usize, marks: &mut [Mark])
+fn fill_angles(behind: &mut [u32], opened: usize, marks: &mut [Mark])
     requires empty { behind.old ≡ replicate (opens_of marks.old + closes_of marks.old + 1) 0 }
     requires all_opened { opened ≡ opens_of marks.old }
     requires few { opens_of marks.old + closes_of marks.old < 2 ^ 32 }
+    requires short { length marks.old < 2 ^ 32 }
     ensures { marks.new ≡ with_angles marks.old }
 {
     let mut depth = opened;
     let mut at = marks.len();
     'elements: while at > 0 {
-        behind[depth] = at;
+        behind[depth] = at as u32;
         at -= 1;
         let mark = marks[at];
         depth = depth_before(depth, mark);
@@ -132,10 +138,15 @@ fn depth_before(depth: usize, mark: Mark) -> usize
     depth + mark.closes as usize - mark.opens as usize
 }
 
-fn angle_part(begins: bool, end: usize, at: usize) -> usize
+fn angle_part(begins: bool, end: u32, at: usize) -> u32
+    requires { at < 2 ^ 32 }
     ensures { result ≡ (if begins then end - at else 0) }
 {
-    if begins { end.saturating_sub(at) } else { 0 }
+    if begins {
+        end.saturating_sub(at as u32)
+    } else {
+        0
+    }
 }
 
 fn set_modifiers(marks: &mut [Mark])
@@ -153,12 +164,13 @@ fn set_modifiers(marks: &mut [Mark])
 }
 
 fn set_heads(marks: &mut [Mark])
+    requires { length marks.old < 2 ^ 32 }
     ensures { marks.new ≡ with_heads marks.old }
 {
     let mut at = marks.len();
     'elements: while at > 0 {
         at -= 1;
         let count = head(&marks[at..]);
-        marks[at].head = count;
+        marks[at].head = count as u32;
     }
 }

@@ -28,7 +28,7 @@ pub use inherits::{Stop, inherited, length_before};
 pub use level::marks_in;
 pub use mark::{Mark, Sort};
 pub use marks::{mark_of, part};
-pub use quiet::{is_quiet, may_list_accessors, sort_of};
+pub use quiet::{is_blank, is_quiet, may_list_accessors, name_at, sort_of};
 pub use runs::{before_braces, before_equals, binding_length, item_length};
 pub use sorts::{
     is_at, is_braces, is_builtin_pound, is_colon, is_comma, is_dot, is_equals, is_name,

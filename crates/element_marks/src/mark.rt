@@ -42,27 +42,27 @@ pub enum Sort {
 pub struct Mark {
     pub sort: Sort,
     pub keyword: Keyword,
-    pub start: u32,
-    pub end: u32,
     /// Whether it is first on its line.
     pub first: bool,
     /// Whether trivia stand directly before it.
     pub spaced: bool,
-    /// How many `<` and `>` an operator other than `->` has.
-    pub opens: u32,
-    pub closes: u32,
     /// Whether it is an operator that begins with `<`.
     pub begins_angle: bool,
     /// Whether it is an operator that ends with a `<` past its first byte.
     pub ends_angle: bool,
     /// Whether it joins the elements around it.
     pub joins: bool,
-    /// Of an operator that begins with `<`, how many elements from it on lead back to the angle depth before it;
-    /// 0 where none do.
-    pub angles: usize,
     /// Whether it is a modifier.
     pub modifies: bool,
+    pub start: u32,
+    pub end: u32,
+    /// How many `<` and `>` an operator other than `->` has.
+    pub opens: u32,
+    pub closes: u32,
+    /// Of an operator that begins with `<`, how many elements from it on lead back to the angle depth before it;
+    /// 0 where none do.
+    pub angles: u32,
     /// How many elements the attributes, the modifiers and the starter of the declaration are that it begins; 0
     /// where it begins none.
-    pub head: usize,
+    pub head: u32,
 }

@@ -42,17 +42,17 @@ fn mark_between(text: &[u8], token: Token, end: u32) -> Mark
     Mark {
         sort,
         keyword: leaf_keyword(token.class, bytes),
-        start: token.start,
-        end,
         first: is_first(text, token),
         spaced: token.trivia < token.start,
-        opens: angle_count(LESS, sort, bytes),
-        closes: angle_count(GREATER, sort, bytes),
         begins_angle: begins_angle(sort, bytes),
         ends_angle: ends_angle(sort, bytes),
         joins: false,
-        angles: 0,
         modifies: false,
+        start: token.start,
+        end,
+        opens: angle_count(LESS, sort, bytes),
+        closes: angle_count(GREATER, sort, bytes),
+        angles: 0,
         head: 0,
     }
 }
@@ -74,7 +74,7 @@ pub fn leaf_sort(class: Class, bytes: &[u8]) -> Sort
     }
 }
 
-fn leaf_keyword(class: Class, bytes: &[u8]) -> Keyword
+pub fn leaf_keyword(class: Class, bytes: &[u8]) -> Keyword
     ensures { result ≡ leaf_keyword class bytes.now }
 {
     match class {

@@ -50,8 +50,8 @@ fn use_angles(marks: &[Mark]) -> usize
     ensures bound { result ≤ length marks.now }
 {
     match marks.first() {
-        Some(mark) if mark.begins_angle && !mark.spaced && mark.angles <= marks.len() => {
-            mark.angles
+        Some(mark) if mark.begins_angle && !mark.spaced && mark.angles as usize <= marks.len() => {
+            mark.angles as usize
         }
         _ => 0,
     }

@@ -255,7 +255,17 @@ fn keyword_in(rows: &[(&[u8], Keyword)], word: &[u8]) -> Keyword
 fn row_of<'a>(rows: &'a [(&'a [u8], Keyword)], word: &[u8]) -> Option<&'a (&'a [u8], Keyword)>
     ensures { option_copied result ≡ find (λ row. bytes_eq row.0.now word.now) rows.now }
 {
-    rows.iter().find(|row| row.0 == word)
+    rows.iter().find(|row| is_spelled(row.0, word))
+}
+
+/// Whether the two are the same; most differ in their first byte.
+fn is_spelled(spelling: &[u8], word: &[u8]) -> bool
+    ensures { result ≡ bytes_eq spelling.now word.now }
+{
+    match (spelling.first(), word.first()) {
+        (Some(a), Some(b)) if *a != *b => false,
+        _ => spelling == word,
+    }
 }
 
 /// Whether the word behind a `#` is one of Swift's own.
