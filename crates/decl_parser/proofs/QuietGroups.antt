@@ -1,9 +1,9 @@
 -- What is read of a list in which no macro use and no attribute begins.
-use Rattle.std.proofs.Common.{◌≡◌, refl, ℕ, zero, suc, ◌+◌, ◌≤◌, ◌∙◌, ap, sym, subst, arith, drop-drop, List, [], ◌∷◌, ◌++◌, length, map, drop, nat_lt, Bool, true, false, ◌||◌, ◌&&◌, not, if◌then◌else◌}
+use Rattle.std.proofs.Common.{◌≡◌, refl, ℕ, zero, suc, ◌+◌, ◌≤◌, ◌∙◌, ap, sym, subst, arith, drop-drop, List, [], ◌∷◌, ◌++◌, length, map, drop, take, nat_lt, Bool, true, false, ◌||◌, ◌&&◌, not, if◌then◌else◌}
 use Rattle.std.specs.List.{flat_map, list_any}
 use Rattle.swift_base.specs.declared.place.Span.{Span}
 use Rattle.swift_lexer.specs.declared.element.Element.{Element}
-use Rattle.swift_lexer.specs.Trees.{Forest, forest_of, tree_of, leaf, nest, none, cons}
+use Rattle.swift_lexer.specs.Trees.{Tree, Forest, forest_of, tree_of, leaf, nest, none, cons}
 use Rattle.element_marks.specs.declared.mark.Mark.{Mark}
 use Rattle.element_marks.specs.Accessors.{lists_accessors, observes_from}
 use Rattle.element_marks.specs.Heads.{attribute_length, by_length, first_is}
@@ -18,8 +18,8 @@ use Rattle.decl_parser.specs.declared.inside.Inside.{Inside}
 use Rattle.decl_parser.specs.Attributes.{attr_of}
 use Rattle.decl_parser.specs.Bindings.{names_here, names_inside}
 use Rattle.decl_parser.specs.Found.{Found, all_within, found_from, found_in, found_step, joined, nothing, within}
-use Rattle.decl_parser.specs.Insides.{first_inside, nothing_inside}
-use Rattle.decl_parser.specs.Levels.{inside_of, insides, is_flat, is_simple}
+use Rattle.decl_parser.specs.Insides.{AreBlank, first_inside, nothing_inside}
+use Rattle.decl_parser.specs.Levels.{inside_of, insides, is_flat, is_leaf, is_simple}
 use Rattle.decl_parser.proofs.FoundWalks.{other_step}
 
 names_bare : (marks : List Mark) (insides : List Inside) → names_inside marks insides ≡ names_inside (map bare marks) insides
@@ -98,11 +98,6 @@ quiet_none (mark ∷ marks) is =
     let parts = neither_of (is_use mark || is_at mark) (list_any (λ m. is_use m || is_at m) marks) is in
     (parts.0, quiet_none marks parts.1)
 
--- nothing stands inside any of the elements
-abbrev pub Nothing : List Inside → Type 0
-Nothing [] = Unit {0}
-Nothing (inside ∷ insides) = (inside ≡ nothing_inside) × Nothing insides
-
 both : (a b : Bool) → (a && b) ≡ true → (a ≡ true) × (b ≡ true)
 both true b is = (refl, is)
 both false b is = cc
@@ -111,17 +106,33 @@ negated : (b : Bool) → not b ≡ true → b ≡ false
 negated true is = cc
 negated false is = refl
 
-nothing_flat : (text : List ℕ) (forest : Forest) → is_flat forest ≡ true → Nothing (insides text forest)
+blank_leaf : (text : List ℕ) (tree : Tree) → is_leaf tree ≡ true → nothing_inside ≡ inside_of text tree
+unfolding inside_of
+blank_leaf text (leaf token) is = refl
+blank_leaf text (nest left inner right) is = cc
+
+nothing_flat : (text : List ℕ) (forest : Forest) → is_flat forest ≡ true → AreBlank (insides text forest)
 unfolding inside_of insides
 nothing_flat text none is = tt
 nothing_flat text (cons (leaf token) forest) is = (refl, nothing_flat text forest is)
 nothing_flat text (cons (nest left inner right) forest) is = cc
 
-nothing_first : (insides : List Inside) → Nothing insides → nothing_inside ≡ first_inside insides
+-- so blanks stand for what stands inside tokens
+pub blank_insides : (text : List ℕ) (elements : List Element) (blanks : List Inside) → is_flat (forest_of elements) ≡ true → length elements ≤ length blanks → AreBlank blanks → take (length elements) blanks ≡ insides text (forest_of elements)
+unfolding insides
+blank_insides text [] [] flat few blank = refl
+blank_insides text [] (inside ∷ blanks) flat few blank = refl
+blank_insides text (element ∷ elements) [] flat few blank = absurd (omega (arith, few))
+blank_insides text (element ∷ elements) (inside ∷ blanks) flat few blank =
+    let parts = both (is_leaf (tree_of element)) (is_flat (forest_of elements)) flat in
+    ap (λ i. i ∷ take (length elements) blanks) (blank.0 ∙ blank_leaf text (tree_of element) parts.0)
+    ∙ ap (λ l. inside_of text (tree_of element) ∷ l) (blank_insides text elements blanks parts.1 (omega (arith, few)) blank.1)
+
+nothing_first : (insides : List Inside) → AreBlank insides → nothing_inside ≡ first_inside insides
 nothing_first [] empty = refl
 nothing_first (inside ∷ insides) empty = sym empty.0
 
-nothing_drop : (insides : List Inside) → Nothing insides → Nothing (drop 1 insides)
+nothing_drop : (insides : List Inside) → AreBlank insides → AreBlank (drop 1 insides)
 nothing_drop [] empty = tt
 nothing_drop (inside ∷ insides) empty = empty.1
 
@@ -130,17 +141,22 @@ named_by mark marks inside =
     if is_parentheses mark then inside.names
     else (if is_name mark && not (is_underscore mark.keyword) && not (first_is is_colon marks) then name_of mark ∷ [] else [])
 
-nothing_names : (marks : List Mark) (insides : List Inside) → Nothing insides → names_inside marks [] ≡ names_inside marks insides
+nothing_names : (marks : List Mark) (insides : List Inside) → AreBlank insides → names_inside marks [] ≡ names_inside marks insides
 nothing_names [] insides empty = refl
 nothing_names (mark ∷ marks) insides empty =
     ap (λ inside. named_by mark marks inside ++ names_inside marks []) (nothing_first insides empty)
     ∙ ap (λ l. names_here mark marks insides ++ l) (nothing_names marks (drop 1 insides) (nothing_drop insides empty))
 
-nothing_within : (insides : List Inside) → Nothing insides → nothing ≡ all_within insides
+nothing_within : (insides : List Inside) → AreBlank insides → nothing ≡ all_within insides
 nothing_within [] empty = refl
 nothing_within (inside ∷ insides) empty =
     nothing_within insides empty.1
     ∙ ap (λ i. record { attrs = []; uses = i.uses ++ flat_map (λ inside. inside.uses) insides; locals = i.locals ++ flat_map (λ inside. inside.locals) insides }) (sym empty.0)
+
+-- one more of them
+pub blank_push : (insides : List Inside) (inside : Inside) → AreBlank insides → inside ≡ nothing_inside → AreBlank (insides ++ inside ∷ [])
+blank_push [] inside blank is = (is, tt)
+blank_push (first ∷ insides) inside blank is = (blank.0, blank_push insides inside blank.1 is)
 
 -- what a simple list gives
 pub record Simple (text : List ℕ) (elements : List Element) : Type 0 where

@@ -13,7 +13,7 @@ ghost use Rattle.decl_parser.specs.Fragments.{accessor_marks, accessors_inside, 
 use crate::attributes::{attr_of, span_from};
 use crate::fault::{ParseFault, ParseKind, fault};
 use crate::found::{Findings, found_in};
-use crate::inside::Inside;
+use crate::inside::{Inside, blank_list};
 use crate::items::items;
 use crate::levels::{group_inside, insides};
 use crate::lists::{add, behind};
@@ -26,6 +26,9 @@ use std::alloc::{AllocError, Global};
 use swift_base::{Listed, Refusal, Span, Text};
 use swift_lexer::Element;
 use swift_tree::{Attr, Outline, Shape};
+
+/// How many tokens a declaration without a group may have to need no list of what stands inside each.
+const BLANKS: usize = 16;
 
 /// The outline of a text of the shape by its elements.
 pub fn by_shape(
@@ -82,7 +85,8 @@ fn declarations(
     requires { length text.now ≤ LONGEST_SOURCE }
     ensures { Answers outline_of result (λ outcome. outcome ≡ with_items (bare text.now shape (all_of text.now)) (items_of_list place text.now (forest_of elements.now))) }
 {
-    let items = items(alloc, text, elements, place)?;
+    let blanks = blank_list(alloc, BLANKS)?;
+    let items = items(alloc, text, elements, place, &blanks)?;
     let mut outline = bare(alloc, text, shape, all_of(text))?;
     outline.items = items;
     Ok(outline)

@@ -1,10 +1,11 @@
 // What stands in the brackets of an element, as far as the elements around it have to know.
 
-ghost use Rattle.std.specs.Prelude.{◌≡◌};
-ghost use Rattle.decl_parser.specs.Insides.{block_here, first_inside, nothing_inside};
+ghost use Rattle.std.specs.Prelude.{◌≡◌, IfOk};
+ghost use Rattle.decl_parser.specs.Insides.{AreBlank, block_here, first_inside, nothing_inside};
 
+use crate::lists::add;
 use element_marks::{Mark, span_of};
-use std::alloc::Global;
+use std::alloc::{AllocError, Global};
 use swift_base::{Listed, Span};
 use swift_tree::{Attr, BlockShape, MacroUse};
 
@@ -27,6 +28,17 @@ pub struct Inside {
 pub struct BlockAt {
     pub span: Span,
     pub shape: BlockShape,
+}
+
+/// What stands inside so many tokens.
+pub fn blank_list(alloc: Global, count: usize) -> Result<Vec<Inside>, AllocError>
+    ensures { IfOk result (λ list. AreBlank list.items) }
+{
+    let mut list = Vec::with_capacity(alloc, count)?;
+    'tokens: for _ in 0..count {
+        add(&mut list, nothing_inside(alloc))?;
+    }
+    Ok(list)
 }
 
 /// What stands inside a token.

@@ -7,13 +7,14 @@ ghost use Rattle.element_marks.specs.Answers.{Answers};
 ghost use Rattle.element_marks.specs.Heads.{first_is};
 ghost use Rattle.element_marks.specs.Sorts.{is_semicolon};
 ghost use Rattle.decl_parser.specs.Cut.{after, all_ends, beginning, block_of, braces_seen, closed, count_of, ends, head_of, item_at, kind_of, members_at, members_place, nothing_more, start_of, starter_of, use_ends, use_fits, whole_item, word_kind};
+ghost use Rattle.decl_parser.specs.Insides.{AreBlank};
 ghost use Rattle.decl_parser.specs.Levels.{forest_size, insides, items_of_list, members, members_by};
 
 use crate::attributes::span_from;
 use crate::fault::{ParseFault, ParseKind, fault};
 use crate::found::{Findings, Search, found};
 use crate::inside::{BlockAt, Inside};
-use crate::levels::{group_inside, insides_without};
+use crate::levels::{group_inside, listed_insides, listed_or};
 use crate::lists::{add, behind, upto};
 use crate::parts::{Parts, has_members, parts_of};
 use crate::place::{Place, has_place};
@@ -65,23 +66,27 @@ fn kind_of(starter: &Mark) -> Kind
     }
 }
 
-/// A declaration's elements: the last of `list`, from the place `from` on.
+/// A declaration's elements: the last of `list`, from the place `from` on. `blanks` serve where no group is among
+/// them.
 #[derive(Clone, Copy)]
 struct Own<'a> {
     text: &'a [u8],
     list: &'a [Mark],
     from: usize,
     elements: &'a [Element],
+    blanks: &'a [Inside],
 }
 
-/// The declarations that the elements are, or the first fault.
+/// The declarations that the elements are, or the first fault; the more `blanks`, the less memory is asked for.
 #[cycle(items)]
 pub fn items(
     alloc: Global,
     text: &[u8],
     elements: &[Element],
     place: Place,
+    blanks: &[Inside],
 ) -> Result<Vec<Item>, Refusal<ParseFault>>
+    requires { AreBlank blanks.now }
     ensures { Answers (λ items. map item_of items.items) result (λ outcome. outcome ≡ items_of_list place text.now (forest_of elements.now)) }
 {
     let marks = marks_in(alloc, text, elements)?;
@@ -100,6 +105,7 @@ pub fn items(
                 list: upto(&marks, at + count),
                 from: at,
                 elements: upto(behind(elements, at), count),
+                blanks,
             };
             let item = item_at(alloc, own, behind(&marks, at + count), place)?;
             add(&mut items, item)?;
@@ -127,25 +133,27 @@ fn item_at(
     next: &[Mark],
     place: Place,
 ) -> Result<Item, Refusal<ParseFault>>
-    requires { own.from ≤ length own.list.now }
+    requires within { own.from ≤ length own.list.now }
+    requires blank { AreBlank own.blanks.now }
     ensures { Answers item_of result (λ outcome. outcome ≡ item_at place own.entry.list.now own.entry.from next.now (insides own.entry.text.now (forest_of own.entry.elements.now)) (members own.entry.text.now (forest_of own.entry.elements.now))) }
 {
     let marks = behind(own.list, own.from);
     let head = head_of(marks);
     let starter = beginning(place, marks)?;
     let braces = members_place(&starter, head, marks);
-    let insides = insides_without(alloc, own.text, own.elements, braces)?;
+    let list = listed_insides(alloc, own.text, own.elements, braces, own.blanks)?;
+    let insides = listed_or(own.blanks, own.elements.len(), &list);
     let kind = kind_of(&starter);
     let parts = parts_of(
         alloc,
         kind,
         &starter,
         behind(marks, head),
-        behind(&insides, head),
+        behind(insides, head),
     )?;
-    let members = members_at(alloc, own.text, own.elements, braces)?;
+    let members = members_at(alloc, own.text, own.elements, braces, own.blanks)?;
     all_ends(parts.body, &starter, own.list, own.from)?;
-    Ok(assembled(alloc, own, next, kind, parts, &insides, members)?)
+    Ok(assembled(alloc, own, next, kind, parts, insides, members)?)
 }
 
 /// The declarations in the braces at the place.
@@ -155,12 +163,14 @@ fn members_at(
     text: &[u8],
     elements: &[Element],
     place: Option<usize>,
+    blanks: &[Inside],
 ) -> Result<Vec<Item>, Refusal<ParseFault>>
+    requires { AreBlank blanks.now }
     ensures { Answers (λ items. map item_of items.items) result (λ outcome. outcome ≡ members_at place (members text.now (forest_of elements.now))) }
 {
     match members_in(elements, place) {
         Some(inner) => {
-            let mut members = items(alloc, text, inner, Place::Members)?;
+            let mut members = items(alloc, text, inner, Place::Members, blanks)?;
             members.shrink_to_fit();
             Ok(members)
         }
@@ -213,7 +223,7 @@ fn head_of(own: &[Mark]) -> usize
     ensures bound { result ≤ length own.now }
 {
     match own.first() {
-        Some(first) => first.head.min(own.len()),
+        Some(first) => (first.head as usize).min(own.len()),
         None => 0,
     }
 }

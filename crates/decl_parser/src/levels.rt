@@ -5,13 +5,14 @@ ghost use Rattle.swift_lexer.specs.Trees.{forest_of, tree_of};
 ghost use Rattle.element_marks.specs.Levels.{level};
 ghost use Rattle.element_marks.specs.Quiet.{is_quiet, may_list_accessors};
 ghost use Rattle.decl_parser.specs.Cut.{without};
+ghost use Rattle.decl_parser.specs.Insides.{AreBlank, listed_or};
 ghost use Rattle.decl_parser.specs.Levels.{inside_of, insides, read_inside, tree_inside};
 
 use crate::bindings::names_inside;
 use crate::found::{Findings, found_in};
 use crate::inside::{Inside, nothing_inside};
 use crate::lists::{add, behind, upto};
-use crate::quiet::{is_simple, read_quiet, read_simple};
+use crate::quiet::{is_flat, is_simple, read_quiet, read_simple};
 use element_marks::{Mark, is_quiet, lists_accessors, marks_in, may_list_accessors, observes};
 use std::alloc::{AllocError, Global};
 use swift_base::Listed;
@@ -105,6 +106,38 @@ pub fn insides_without(
     let mut others = insides(alloc, text, behind(behind(elements, place), 1))?;
     list.append(&mut others)?;
     Ok(list)
+}
+
+/// The same; no list where the elements are tokens, and no more than `blanks` has.
+pub fn listed_insides(
+    alloc: Global,
+    text: &[u8],
+    elements: &[Element],
+    place: Option<usize>,
+    blanks: &[Inside],
+) -> Result<Option<Vec<Inside>>, AllocError>
+    requires { AreBlank blanks.now }
+    ensures { IfOk result (λ list. listed_or blanks.now (length elements.now) list ≡ without place (insides text.now (forest_of elements.now))) }
+{
+    if place.is_none() && elements.len() <= blanks.len() && is_flat(elements) {
+        return Ok(None);
+    }
+    let list = insides_without(alloc, text, elements, place)?;
+    Ok(Some(list))
+}
+
+/// What is listed, or else what stands inside so many tokens.
+pub fn listed_or<'a>(
+    blanks: &'a [Inside],
+    count: usize,
+    list: &'a Option<Vec<Inside>>,
+) -> &'a [Inside]
+    ensures { result.now ≡ listed_or blanks.now count list.now }
+{
+    match list {
+        Some(list) => list,
+        None => upto(blanks, count),
+    }
 }
 
 /// What stands inside a group, by the elements of its list and by what stands inside each.

@@ -16,7 +16,7 @@ ghost use Rattle.decl_parser.specs.Levels.{insides, is_flat, is_leaf, is_simple,
 use crate::found::add_copies;
 use crate::inside::{Inside, first_names};
 use crate::lists::{add, behind};
-use element_marks::{Sort, is_quiet, is_underscore, mark_of, may_list_accessors, name_of, sort_of};
+use element_marks::{Sort, is_blank, is_quiet, may_list_accessors, name_at, sort_of};
 use std::alloc::{AllocError, Global};
 use swift_base::{Listed, Span};
 use swift_lexer::Element;
@@ -65,7 +65,7 @@ pub fn is_simple(text: &[u8], elements: &[Element]) -> bool
 }
 
 /// Whether no element is a group.
-fn is_flat(elements: &[Element]) -> bool
+pub fn is_flat(elements: &[Element]) -> bool
     ensures { result ≡ is_flat (forest_of elements.now) }
 {
     'elements: for element in elements {
@@ -124,7 +124,7 @@ fn add_element_names(
         return names.extend_from_slice(first_names(insides));
     }
     if is_name_sort(sort) {
-        return add_name(names, text, element, others);
+        return add_name(names, text, element, sort, others);
     }
     Ok(())
 }
@@ -134,13 +134,14 @@ fn add_name(
     names: &mut Vec<Span>,
     text: &[u8],
     element: &Element,
+    sort: Sort,
     others: &[Element],
 ) -> Result<(), AllocError>
+    requires { sort ≡ (mark_of text.now (tree_of element.now)).sort }
     ensures { OnOk result (names.new.items ≡ names.old.items ++ (if not (is_underscore (mark_of text.now (tree_of element.now)).keyword) && not (first_is is_colon (own_marks text.now (forest_of others.now))) then name_of (mark_of text.now (tree_of element.now)) ∷ [] else [])) }
 {
-    let mark = mark_of(text, element);
-    if !is_underscore(mark.keyword) && !first_colon(text, others) {
-        return add(names, name_of(&mark));
+    if !is_blank(text, element) && !first_colon(text, others) {
+        return add(names, name_at(element, sort));
     }
     Ok(())
 }

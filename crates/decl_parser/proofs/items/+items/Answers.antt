@@ -44,7 +44,7 @@ items-item_at-requires n c =
     let measure : 3 * forest_size (forest_of elements) + 2 ≡ n = c.decreases in
     let falls : 3 * forest_size (forest_of c.upto-else-head_of-eq0.result.now) + 1 < n =
     omega (arith, measure, ap (λ es. forest_size (forest_of es)) own, size_take count (drop at elements), size_drop at elements) in
-    (falls, omega (arith, ap length list, within_front at count marks within))
+    (falls, (omega (arith, ap length list, within_front at count marks within), c.requires))
 
 pub items-returns-in_err-item : goal.items-returns-in_err-item
 items-returns-in_err-item n c =
