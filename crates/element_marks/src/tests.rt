@@ -11,7 +11,7 @@ use swift_base::Span;
 use swift_lexer::{LONGEST_TEXT, LexFault, Refusal, Token, group, lex};
 
 /// How many elements the attribute is with which a text begins, and the head.
-const HEADS: [(&str, usize, usize); 11] = [
+const HEADS: [(&str, usize, u32); 11] = [
     ("@A.B<Int>(x) func f()", 8, 9),
     ("@objc(a:b:) (c) func f()", 3, 0),
     ("@main struct A {}", 2, 3),
@@ -26,7 +26,7 @@ const HEADS: [(&str, usize, usize); 11] = [
 ];
 
 /// How many elements the angle part is that begins at a place.
-const ANGLES: [(&str, usize, usize); 7] = [
+const ANGLES: [(&str, usize, u32); 7] = [
     ("A<B<C>> x", 1, 5),
     ("A<B<C>> x", 3, 0),
     ("A<B<C>>=d", 1, 5),
