@@ -93,9 +93,8 @@ fn ending_of(alloc: Global, base: &str, index: u32) -> Result<String, AllocError
 fn put_index(text: &mut String, index: u32) -> Result<(), AllocError>
     ensures { OnOk result (string_bytes text.new ≡ string_bytes text.old ++ index_text index) }
 {
-    match index.checked_sub(1) {
-        Some(before) => put_number(text, before as usize)?,
-        None => {}
+    if let Some(before) = index.checked_sub(1) {
+        put_number(text, before as usize)?;
     }
     Ok(())
 }
