@@ -1,5 +1,6 @@
 // `#funcUnique()`: a function with a name of its own.
-ghost use Rattle.std.specs.Prelude.{◌≡◌, IfOk, option_map, sym, ◌∙◌};
+ghost use Rattle.std.specs.Prelude.{◌≡◌, IfOk, option_map};
+ghost use Rattle.std.proofs.Common.{sym, ◌∙◌};
 ghost use Rattle.std.specs.Str.{IsUtf8};
 ghost use Rattle.plugin_messages.specs.Writable.{WhereSome, IsHostWritable, IsPluginWritable};
 ghost use Rattle.sample_macros.specs.Samples.{declaration_discriminator, unique_func, func_unique_reply};
@@ -26,7 +27,7 @@ impl Macro for FuncUniqueMacro {
     }
 }
 
-#[tactic(auto, using(crate::proofs::Literals::unique_func_utf8), unfolding(crate::specs::Samples::func_unique_reply))]
+#[tactic(auto, unfolding(crate::specs::Samples::func_unique_reply))]
 fn func_unique_reply(alloc: Global, asked: &HostMessage) -> Result<PluginMessage, AllocError>
     ensures reply { IfOk result (λ reply. reply ≡ func_unique_reply asked.now) }
     ensures writable { IsHostWritable asked.now → IfOk result IsPluginWritable }

@@ -66,7 +66,6 @@ fn expression_source(asked: &HostMessage) -> Option<&[u8]>
 }
 
 // The reply to a use with this argument.
-#[tactic(auto, using(crate::proofs::Literals::stringified_utf8))]
 fn reply_with(alloc: Global, argument: &[u8]) -> Result<PluginMessage, AllocError>
     ensures reply { IfOk result (λ reply. reply ≡ PluginMessage.Result (Some (stringified argument.now)) []) }
     ensures writable { IsUtf8 argument.now → IfOk result IsPluginWritable }
