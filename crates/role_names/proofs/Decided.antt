@@ -1,15 +1,15 @@
 -- Each test of covered names decides its relation.
-use Rattle.std.proofs.Common.{ℕ, Bool, false, List, ◌++◌, length, take, drop, Option, Some, None, Decides, refl, sym}
+use Rattle.std.proofs.Common.{ℕ, Bool, false, List, ◌++◌, Option, Some, None, Decides, refl}
 use Rattle.std.specs.List.{Any, list_any}
 use Rattle.std.proofs.lemmas.List.Folds.{Any-from_list_any, list_any-from_Any}
-use Rattle.std.proofs.lemmas.Bool.Decides.{Decides-and, Decides-or, Decides-ltb, Decides-like}
+use Rattle.std.proofs.lemmas.Bool.Decides.{Decides-or}
 use Rattle.std.proofs.lemmas.Slice.Eq.{bytes_eq-Decides}
 use Rattle.unique_names.specs.Names.{discriminator_of}
+use Rattle.unique_names.proofs.Made.{are_decided}
 use Rattle.role_names.specs.declared.rule.NameRule.{NameRule}
 use Rattle.role_names.specs.declared.rule.NameRule.TheVariants.{Named, Overloaded, Prefixed, Suffixed, Arbitrary}
 use Rattle.role_names.specs.Covered.{IsCoveredBy}
 use Rattle.role_names.specs.Decided.{is_covered_by, ListIsDecided, UniqueIsDecided, IsDecided}
-use Rattle.role_names.proofs.Joined.{joined, front_of}
 
 never : Decides false ⊥
 never = (λ wrong. cc, λ none. absurd none)
@@ -34,14 +34,7 @@ pub list_is_decided : ListIsDecided
 list_is_decided rules attached name = any_decides (is_covered_by attached name) (IsCoveredBy attached name) (rule_is_decided attached name) rules
 
 pub unique_is_decided : UniqueIsDecided
-unique_is_decided key name =
-    let beginning = discriminator_of key in
-    let begins = bytes_eq-Decides beginning (take (length beginning) name) in
-    let longer = Decides-ltb (length beginning) (length name) in
-    Decides-like _
-    (λ both. record { rest = drop (length beginning) name; begins = joined name beginning (drop (length beginning) name) (sym both.0) refl; longer = both.1 })
-    (λ unique. (sym (front_of name beginning unique.rest unique.begins), unique.longer))
-    (Decides-and _ _ begins longer)
+unique_is_decided key name = are_decided (discriminator_of key) name
 
 pub is_decided : IsDecided
 is_decided rules attached key name = Decides-or _ _ (list_is_decided rules attached name) (unique_is_decided key name)

@@ -1,8 +1,9 @@
 -- SE-0389: the names that a macro may make, by the list of its role and by the key of its request.
-use Rattle.std.specs.Prelude.{◌≡◌, ℕ, ◌<◌, List, ◌++◌, length, Option, IsSomeAnd, ◌⊎◌}
+use Rattle.std.specs.Prelude.{◌≡◌, ℕ, List, ◌++◌, Option, IsSomeAnd, ◌⊎◌}
 use Rattle.std.specs.List.{Any}
 use Rattle.unique_names.specs.declared.step.KeyStep.{KeyStep}
 use Rattle.unique_names.specs.Names.{discriminator_of}
+use Rattle.unique_names.specs.Unique.{IsUnique}
 use Rattle.role_names.specs.declared.rule.NameRule.{NameRule}
 use Rattle.role_names.specs.declared.rule.NameRule.TheVariants.{Named, Overloaded, Prefixed, Suffixed, Arbitrary}
 
@@ -19,10 +20,8 @@ abbrev pub IsCoveredByList : List NameRule → Option (List ℕ) → List ℕ �
 IsCoveredByList rules attached name = Any (IsCoveredBy attached name) rules
 
 -- the name is one of those that are unique to the request: its key's discriminator and something behind it
-pub record IsUniqueName (key : List KeyStep) (name : List ℕ) : Type 0 where
-  pub rest : List ℕ
-  pub begins : name ≡ discriminator_of key ++ rest
-  pub longer : length (discriminator_of key) < length name
+abbrev pub IsUniqueName : List KeyStep → List ℕ → Type 0
+IsUniqueName key name = IsUnique (discriminator_of key) name
 
 -- a rule covers the name, or it is unique to the request
 abbrev pub IsCovered : List NameRule → Option (List ℕ) → List KeyStep → List ℕ → Type 0

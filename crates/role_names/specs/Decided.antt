@@ -1,10 +1,11 @@
 -- this project's own: covered names by Boolean tests, for definitions that compute.
-use Rattle.std.specs.Prelude.{ℕ, Bool, true, false, ◌||◌, ◌&&◌, List, ◌++◌, length, nat_eq, nat_lt, Option, None, Some}
+use Rattle.std.specs.Prelude.{ℕ, Bool, true, false, ◌||◌, List, ◌++◌, Option, None, Some}
 use Rattle.std.specs.Bool.{Decides}
-use Rattle.std.specs.List.{list_any, starts_with}
+use Rattle.std.specs.List.{list_any}
 use Rattle.std.specs.Str.{bytes_eq}
 use Rattle.unique_names.specs.declared.step.KeyStep.{KeyStep}
 use Rattle.unique_names.specs.Names.{discriminator_of}
+use Rattle.unique_names.specs.Unique.{is_unique}
 use Rattle.role_names.specs.declared.rule.NameRule.{NameRule}
 use Rattle.role_names.specs.declared.rule.NameRule.TheVariants.{Named, Overloaded, Prefixed, Suffixed, Arbitrary}
 use Rattle.role_names.specs.Covered.{IsCoveredByList, IsUniqueName, IsCovered}
@@ -26,8 +27,7 @@ abbrev pub is_covered_by_list : List NameRule → Option (List ℕ) → List ℕ
 is_covered_by_list rules attached name = list_any (is_covered_by attached name) rules
 
 abbrev pub is_unique_name : List KeyStep → List ℕ → Bool
-is_unique_name key name =
-    let beginning = discriminator_of key in starts_with nat_eq name beginning && nat_lt (length beginning) (length name)
+is_unique_name key name = is_unique (discriminator_of key) name
 
 abbrev pub is_covered : List NameRule → Option (List ℕ) → List KeyStep → List ℕ → Bool
 is_covered rules attached key name = is_covered_by_list rules attached name || is_unique_name key name

@@ -9,7 +9,9 @@ use Rattle.std.proofs.lemmas.List.Elements.{All-head, All-tail, All-from_get_or}
 use Rattle.std.proofs.lemmas.Str.{IsUtf8-append, IsUtf8-nil, IsUtf8-encode, IsUtf8-from_ascii, encode_ascii, inside_one}
 use Rattle.std.proofs.lemmas.Str.Ascii.{IsAscii-nil, IsAscii-cons}
 use Rattle.std.proofs.Math.Utf8.{scalars, scalar, encode, encodes}
-use Rattle.sample_macros.specs.Samples.{escaped_byte, escaped, stringified, misfit}
+use Rattle.unique_names.specs.Unique.{made_name}
+use Rattle.unique_names.proofs.Made.{are_utf8}
+use Rattle.sample_macros.specs.Samples.{escaped_byte, escaped, stringified, misfit, unique_func}
 
 -- bytes of other characters than ASCII ones are written as they are
 plain_byte : (byte : ℕ) → 128 ≤ byte → escaped_byte byte ≡ byte ∷ []
@@ -82,3 +84,9 @@ stringified_utf8 argument utf8 =
 pub misfit_utf8 : IsUtf8 misfit
 unfolding misfit encode
 misfit_utf8 = (misfit, (refl, refl))
+
+pub unique_func_utf8 : (discriminator : List ℕ) → IsUtf8 discriminator → IsUtf8 (unique_func discriminator)
+unfolding unique_func encode
+unique_func_utf8 discriminator utf8 =
+    IsUtf8-append (codes "func ") _ (codes "func ", (refl, refl))
+    (IsUtf8-append (made_name discriminator [] 0) _ (are_utf8 discriminator [] 0 utf8 IsUtf8-nil) (codes "() {}", (refl, refl)))

@@ -2,7 +2,8 @@
 use Rattle.std.specs.Prelude.{◌≡◌, ℕ, ◌==◌, ◌||◌, if◌then◌else◌, Option, Some, None, option_and_then, List, [], ◌∷◌, ◌++◌, codes}
 use Rattle.std.specs.List.{flat_map}
 use Rattle.unique_names.specs.declared.role.Role.{Role}
-use Rattle.unique_names.specs.declared.role.Role.TheVariants.{Expression}
+use Rattle.unique_names.specs.declared.role.Role.TheVariants.{Expression, Declaration}
+use Rattle.unique_names.specs.Unique.{made_name}
 use Rattle.plugin_messages.specs.declared.request.Parts.{Parts}
 use Rattle.plugin_messages.specs.declared.request.Parts.TheVariants.{Freestanding}
 use Rattle.plugin_messages.specs.declared.message.HostMessage.{HostMessage}
@@ -50,3 +51,25 @@ pub record IsStringifyReply (asked : HostMessage) (reply : PluginMessage) : Type
   pub argument : Option (List ℕ)
   pub has : HasArgumentWhereSome (option_and_then readable (expression_source asked)) argument
   pub is : reply ≡ stringify_reply asked argument
+
+-- the discriminator of the use that is to be expanded as a declaration
+abbrev pub discriminator_by : Role → List ℕ → Parts → Option (List ℕ)
+discriminator_by Declaration discriminator (Freestanding syntax) = Some discriminator
+discriminator_by _ discriminator _ = None
+
+abbrev pub declaration_discriminator : HostMessage → Option (List ℕ)
+declaration_discriminator (GetCapability version) = None
+declaration_discriminator (Expand target role discriminator parts) = discriminator_by role discriminator parts
+declaration_discriminator (LoadLibrary path name) = None
+
+-- `func U() {}`, U the first name that the discriminator and no base make
+unfoldable pub unique_func : List ℕ → List ℕ
+unique_func discriminator = codes "func " ++ (made_name discriminator [] 0 ++ codes "() {}")
+
+abbrev pub func_unique_by : HostMessage → Option (List ℕ) → PluginMessage
+func_unique_by asked None = refusal_of asked misfit
+func_unique_by asked (Some discriminator) = plugin.Result (Some (unique_func discriminator)) []
+
+-- The reply of `FuncUniqueMacro` to a message.
+unfoldable pub func_unique_reply : HostMessage → PluginMessage
+func_unique_reply asked = func_unique_by asked (declaration_discriminator asked)

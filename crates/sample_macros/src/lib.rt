@@ -4,9 +4,12 @@
 #![tactic(auto)]
 
 mod argument;
+mod func_unique;
 mod literal;
+mod replies;
 mod stringify;
 
+pub use func_unique::FuncUniqueMacro;
 pub use stringify::StringifyMacro;
 
 #[cfg(test)]

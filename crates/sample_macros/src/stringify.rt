@@ -2,21 +2,17 @@
 ghost use Rattle.std.specs.Prelude.{◌≡◌, IfOk, Some, [], option_map, option_and_then};
 ghost use Rattle.std.specs.Str.{IsUtf8};
 ghost use Rattle.plugin_messages.specs.Writable.{WhereSome, IsHostWritable, IsPluginWritable};
-ghost use Rattle.plugin_kit.specs.Refusing.{refusal_of};
 ghost use Rattle.sample_macros.specs.Use.{readable, HasArgumentWhereSome};
-ghost use Rattle.sample_macros.specs.Samples.{expression_source, misfit, stringified, stringify_reply, IsStringifyReply};
+ghost use Rattle.sample_macros.specs.Samples.{expression_source, stringified, stringify_reply, IsStringifyReply};
 ghost use Rattle.sample_macros.specs.OneReply.{one_stringify_reply};
 
 use crate::argument::argument_of;
 use crate::literal::stringified;
-use plugin_kit::{Macro, refusal};
+use crate::replies::{misfit_reply, text_reply};
+use plugin_kit::Macro;
 use plugin_messages::{HostMessage, Parts, PluginMessage};
 use std::alloc::{AllocError, Global};
-use swift_base::{Listed, Text};
 use unique_names::Role;
-
-/// What a macro says to a message that isn't for it, or that lacks what the reply needs.
-const MISFIT: &[u8] = b"this macro does not fit here";
 
 /// The macro that replies `(A, "E")` to a use with the argument A: A is what stands in its first round brackets,
 /// from the first token to the last, and E is A as it is written in a string literal.
@@ -70,21 +66,10 @@ fn expression_source(asked: &HostMessage) -> Option<&[u8]>
 }
 
 // The reply to a use with this argument.
-#[tactic(auto, using(crate::proofs::Literals::stringified_utf8))]
 fn reply_with(alloc: Global, argument: &[u8]) -> Result<PluginMessage, AllocError>
     ensures reply { IfOk result (λ reply. reply ≡ PluginMessage.Result (Some (stringified argument.now)) []) }
     ensures writable { IsUtf8 argument.now → IfOk result IsPluginWritable }
 {
-    let text = Some(Text::from_vec(stringified(alloc, argument)?));
-    let diagnostics = Listed::from_vec(Vec::new(alloc));
-    Ok(PluginMessage::Result { text, diagnostics })
-}
-
-// The reply to a message that isn't for the macro, or that lacks what the reply needs.
-#[tactic(auto, using(crate::proofs::Literals::misfit_utf8), unfolding(crate::specs::Samples::misfit))]
-fn misfit_reply(alloc: Global, asked: &HostMessage) -> Result<PluginMessage, AllocError>
-    ensures reply { IfOk result (λ reply. reply ≡ refusal_of asked.now misfit) }
-    ensures writable { IsHostWritable asked.now → IfOk result IsPluginWritable }
-{
-    refusal(alloc, asked, MISFIT)
+    let text = stringified(alloc, argument)?;
+    Ok(text_reply(alloc, text))
 }

@@ -1,6 +1,6 @@
 // Worked examples of the sample macros: a request's payload, and that of the reply.
-use crate::StringifyMacro;
 use crate::literal::stringified;
+use crate::{FuncUniqueMacro, StringifyMacro};
 use plugin_kit::Macro;
 use plugin_messages::{plugin_payload, read_host};
 use std::alloc::{AllocError, Global};
@@ -62,9 +62,15 @@ fn misfit(alloc: Global, file_name: &str, offset: u32) -> Result<String, AllocEr
     )
 }
 
-fn replies(rt: &impl Abort, alloc: Global, payload: &str, wanted: &str) -> Result<(), Fail> {
+fn replies(
+    rt: &impl Abort,
+    alloc: Global,
+    body: &impl Macro,
+    payload: &str,
+    wanted: &str,
+) -> Result<(), Fail> {
     let asked = read_host(alloc, payload.as_bytes())?;
-    let reply = StringifyMacro.expand(alloc, &asked)?;
+    let reply = body.expand(alloc, &asked)?;
     let written = plugin_payload(alloc, &reply)?;
     assert_eq!(rt; written.as_slice(), wanted.as_bytes(), "{payload}");
     Ok(())
@@ -76,7 +82,7 @@ fn expands_stringify(rt: HostRuntime) -> Result<(), Fail> {
     for (source, text) in uses() {
         let payload = request(alloc, "expression", source)?;
         let wanted = reply(alloc, text)?;
-        replies(&rt, alloc, &payload, &wanted)?;
+        replies(&rt, alloc, &StringifyMacro, &payload, &wanted)?;
     }
     Ok(())
 }
@@ -87,7 +93,7 @@ fn says_that_it_does_not_fit(rt: HostRuntime) -> Result<(), Fail> {
     let wanted = misfit(alloc, "r.swift", 145)?;
     for (role, source) in misfits() {
         let payload = request(alloc, role, source)?;
-        replies(&rt, alloc, &payload, &wanted)?;
+        replies(&rt, alloc, &StringifyMacro, &payload, &wanted)?;
     }
     Ok(())
 }
@@ -128,7 +134,7 @@ fn answers_messages_of_other_kinds(rt: HostRuntime) -> Result<(), Fail> {
     let alloc = rt.alloc();
     for (payload, file_name, offset) in others() {
         let wanted = misfit(alloc, file_name, offset)?;
-        replies(&rt, alloc, payload, &wanted)?;
+        replies(&rt, alloc, &StringifyMacro, payload, &wanted)?;
     }
     Ok(())
 }
@@ -138,5 +144,34 @@ fn escapes_what_a_literal_cannot_hold(rt: HostRuntime) -> Result<(), Fail> {
     let text = stringified(rt.alloc(), b"\\a\"\r\n\t'\xc3\xa9")?;
     let wanted = b"(\\a\"\r\n\t'\xc3\xa9, \"\\\\a\\\"\\r\\n\t'\xc3\xa9\")";
     assert_eq!(rt; text.as_slice(), wanted.as_slice());
+    Ok(())
+}
+
+// A use of `#funcUnique()` at the beginning of a source.
+fn func_request(alloc: Global, role: &str) -> Result<String, AllocError> {
+    format!(in alloc;
+        "{{\"expandFreestandingMacro\":{{\"discriminator\":\"$sX0d0_E\",\"macro\":{{\"moduleName\":\"SampleMacros\",\"name\":\"funcUnique\",\"typeName\":\"FuncUniqueMacro\"}},\"macroRole\":\"{role}\",\"syntax\":{{\"kind\":\"declaration\",\"location\":{{\"column\":1,\"fileID\":\"main/f.swift\",\"fileName\":\"f.swift\",\"line\":1,\"offset\":0}},\"source\":\"#funcUnique()\"}}}}}}"
+    )
+}
+
+#[test]
+fn makes_a_function_with_a_unique_name(rt: HostRuntime) -> Result<(), Fail> {
+    let alloc = rt.alloc();
+    let payload = func_request(alloc, "declaration")?;
+    let wanted = reply(alloc, "func $sX0d0_E7__localfMu_() {}")?;
+    replies(&rt, alloc, &FuncUniqueMacro, &payload, &wanted)?;
+    Ok(())
+}
+
+#[test]
+fn makes_no_function_where_none_fits(rt: HostRuntime) -> Result<(), Fail> {
+    let alloc = rt.alloc();
+    let payload = func_request(alloc, "expression")?;
+    let wanted = misfit(alloc, "f.swift", 0)?;
+    replies(&rt, alloc, &FuncUniqueMacro, &payload, &wanted)?;
+    for (payload, file_name, offset) in others() {
+        let wanted = misfit(alloc, file_name, offset)?;
+        replies(&rt, alloc, &FuncUniqueMacro, payload, &wanted)?;
+    }
     Ok(())
 }

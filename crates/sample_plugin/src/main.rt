@@ -5,7 +5,7 @@
 
 use plugin_kit::{Entry, Macro, Registry, Served, serve};
 use real_links::{StdSink, StdSource};
-use sample_macros::StringifyMacro;
+use sample_macros::{FuncUniqueMacro, StringifyMacro};
 use std::alloc::AllocError;
 use std::io;
 use std::process::ExitCode;
@@ -14,15 +14,24 @@ use swift_base::Text;
 /// The status where there is no memory for the registry; `serve` has the same for want of memory.
 const NO_MEMORY: u8 = 5;
 
-// Serves the macro under the names by which its declaration asks for it:
+// Serves the macros under the names by which their declarations ask for them, as
 // `= #externalMacro(module: "SampleMacros", type: "StringifyMacro")`.
-fn serve_macros(rt: &HostRuntime, stringify: Box<dyn Macro + Send>) -> Result<Served, AllocError> {
+fn serve_macros(
+    rt: &HostRuntime,
+    stringify: Box<dyn Macro + Send>,
+    func_unique: Box<dyn Macro + Send>,
+) -> Result<Served, AllocError> {
     let alloc = rt.alloc();
     let mut entries = Vec::new(alloc);
     entries.push(Entry {
         module: Text::from_bytes(alloc, b"SampleMacros")?,
         type_name: Text::from_bytes(alloc, b"StringifyMacro")?,
         body: stringify,
+    })?;
+    entries.push(Entry {
+        module: Text::from_bytes(alloc, b"SampleMacros")?,
+        type_name: Text::from_bytes(alloc, b"FuncUniqueMacro")?,
+        body: func_unique,
     })?;
     let registry = Registry::new(entries);
 
@@ -37,7 +46,10 @@ fn main(rt: HostRuntime) -> ExitCode {
     let Ok(stringify) = Box::new(rt.alloc(), StringifyMacro) else {
         return ExitCode::from(NO_MEMORY);
     };
-    match serve_macros(&rt, stringify) {
+    let Ok(func_unique) = Box::new(rt.alloc(), FuncUniqueMacro) else {
+        return ExitCode::from(NO_MEMORY);
+    };
+    match serve_macros(&rt, stringify, func_unique) {
         Ok(served) => ExitCode::from(served.status()),
         Err(_) => ExitCode::from(NO_MEMORY),
     }

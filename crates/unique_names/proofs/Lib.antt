@@ -2,3 +2,4 @@ pub mod Numerals
 pub mod Prefix
 pub mod Laws
 pub mod Texts
+pub mod Made

@@ -43,6 +43,11 @@ numeral_value (suc n) = ap (number_from_digits 10) (glyphs_back (digits_of 10 (s
 pub one_number : (m n : ℕ) → numeral m ≡ numeral n → m ≡ n
 one_number m n e = sym (numeral_value m) ∙ (ap value_of e ∙ numeral_value n)
 
+pub numeral_is_some : (n : ℕ) → [] ≡ numeral n → ⊥
+unfolding numeral value_of
+numeral_is_some zero e = cc
+numeral_is_some (suc n) e = let none : 0 ≡ suc n = ap value_of e ∙ numeral_value (suc n) in omega arith
+
 -- digits up to the first byte that is none
 pub record SplitAlike (xs ys x y : List ℕ) : Type 0 where
   pub digits : xs ≡ ys

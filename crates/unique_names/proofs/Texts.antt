@@ -13,14 +13,14 @@ digits_are_ascii [] digits i = omega arith
 digits_are_ascii (d ∷ ds) digits zero = omega (arith, digits.0.below)
 digits_are_ascii (d ∷ ds) digits (suc i) = digits_are_ascii ds digits.1 i
 
-byte_is_utf8 : (c : ℕ) → c < 128 → IsUtf8 (c ∷ [])
+pub byte_is_utf8 : (c : ℕ) → c < 128 → IsUtf8 (c ∷ [])
 byte_is_utf8 c small = IsUtf8-from_ascii (c ∷ []) ascii
   where
     ascii : IsAscii (c ∷ [])
     ascii zero = small
     ascii (suc i) = omega arith
 
-numeral_is_utf8 : (n : ℕ) → IsUtf8 (numeral n)
+pub numeral_is_utf8 : (n : ℕ) → IsUtf8 (numeral n)
 numeral_is_utf8 n = IsUtf8-from_ascii (numeral n) (digits_are_ascii (numeral n) (numeral_is_digits n))
 
 step_is_utf8 : (s : KeyStep) → IsUtf8 (step_text s)

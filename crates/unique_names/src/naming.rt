@@ -30,14 +30,14 @@ fn put_steps(text: &mut String, steps: &[KeyStep]) -> Result<(), AllocError>
 fn put_step(text: &mut String, step: KeyStep) -> Result<(), AllocError>
     ensures { IfOk result (λ _. string_bytes text.new ≡ string_bytes text.old ++ step_text step) }
 {
-    put_number(text, step.offset)?;
+    put_number(text, step.offset as usize)?;
     text.push(char::from(step.role.letter()))?;
-    put_number(text, step.member)?;
+    put_number(text, step.member as usize)?;
     text.push('_')?;
     Ok(())
 }
 
-fn put_number(text: &mut String, number: u32) -> Result<(), AllocError>
+pub(crate) fn put_number(text: &mut String, number: usize) -> Result<(), AllocError>
     ensures { IfOk result (λ _. string_bytes text.new ≡ string_bytes text.old ++ numeral number) }
 {
     write!(text, "{number}")

@@ -1,8 +1,9 @@
 // What a user meets: a discriminator's bytes, and keys as keys of a map.
-use crate::{Key, KeyStep, ROLES, Role, discriminator};
+use crate::{Key, KeyStep, ROLES, Role, UniqueNames, discriminator, is_unique};
 use std::alloc::{AllocError, Global};
 use std::collections::BTreeMap;
 use std::test::Fail;
+use swift_base::Text;
 
 fn step(offset: u32, role: Role, member: u32) -> KeyStep {
     KeyStep {
@@ -66,4 +67,33 @@ fn a_map_finds_keys(rt: HostRuntime) -> Result<(), Fail> {
     assert_eq!(rt; asked.get(&inner), Some(&1));
     assert!(rt; asked.get(&Key::source(alloc)).is_none());
     Ok(())
+}
+
+#[test]
+fn unique_names_count_up(rt: HostRuntime) -> Result<(), Fail> {
+    let alloc = rt.alloc();
+    let key_text = Text::from_bytes(alloc, b"$sX8e0_E")?;
+    let mut names = UniqueNames::new(key_text);
+    assert_eq!(rt;
+        names.make(alloc, "x")?.bytes(),
+        b"$sX8e0_E1xfMu_".as_slice()
+    );
+    assert_eq!(rt;
+        names.make(alloc, "y")?.bytes(),
+        b"$sX8e0_E1yfMu0_".as_slice()
+    );
+    assert_eq!(rt;
+        names.make(alloc, "")?.bytes(),
+        b"$sX8e0_E7__localfMu1_".as_slice()
+    );
+    assert_eq!(rt; names.made(), 3);
+    Ok(())
+}
+
+#[test]
+fn a_unique_name_goes_on_behind_its_key_text(rt: HostRuntime) {
+    let key_text = b"$sX8e0_E".as_slice();
+    assert!(rt; is_unique(key_text, b"$sX8e0_E1xfMu_"));
+    assert!(rt; !is_unique(key_text, key_text));
+    assert!(rt; !is_unique(key_text, b"$sX8p0_E1xfMu_"));
 }
