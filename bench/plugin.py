@@ -1,5 +1,5 @@
 #!/usr/bin/env python3
-"""A plug-in with the macro `stringify`, to be timed beside `sample_plugin`.
+"""A plug-in with the macros `stringify` and `nested`, to be timed beside `sample_plugin`.
 
 It reads frames from standard input and writes one frame for each, in their order, until the input ends. Its status
 is 0 where the input ended after a whole frame, 1 where it ended inside one, 6 where a frame is too long, and 7 at a
@@ -108,10 +108,13 @@ def misfit(syntax):
 
 
 def expanded(request):
+    """A use of `nested` is replaced by one of `stringify`, and that by its argument and the argument's text."""
     syntax = request["syntax"]
     text = argument(syntax["source"]) if request["macroRole"] == "expression" else None
     if text is None:
         return misfit(syntax)
+    if request["macro"]["typeName"] == "NestedMacro":
+        return {"expandMacroResult": {"diagnostics": [], "expandedSource": f"#stringify({text})"}}
     return {"expandMacroResult": {"diagnostics": [], "expandedSource": f'({text}, "{text.translate(ESCAPES)}")'}}
 
 

@@ -1,5 +1,5 @@
-pub mod Replies
-pub mod Reports
+pub mod Times
 pub mod Promises
 pub mod Found
 pub mod Files
+pub mod Ways

@@ -1,39 +1,53 @@
 -- The promises of a run, from what one run does.
-use Rattle.std.proofs.Common.{◌≡◌, ◌⊎◌, inl, inr, ℕ, suc, ◌<◌, Bool, true, false, Option, Some, None, Result, Ok, Err, List, [], ◌∷◌, ◌++◌, map, refl, sym, ap, ◌∙◌, subst, arith}
-use Rattle.std.specs.List.{list_any}
+use Rattle.std.proofs.Common.{◌≡◌, ◌⊎◌, inl, inr, ℕ, zero, suc, ◌<◌, ◌||◌, Bool, true, false, if◌then◌else◌, Option, Some, None, Result, Ok, Err, List, [], ◌∷◌, ◌++◌, map, refl, sym, ap, ap₂, ◌∙◌, subst, arith}
+use Rattle.std.specs.Prelude.{All}
+use Rattle.std.specs.List.{Contains, list_any}
+use Rattle.std.proofs.lemmas.List.{map-append}
+use Rattle.std.proofs.lemmas.List.Elements.{All-cons, All-contains, All-head, All-nil, All-tail, Contains-append_cases, Contains-append_left}
 use Rattle.swift_base.specs.Told.{then_bytes, Rose}
 use Rattle.swift_base.specs.Outside.{SinkSeen, FilesSeen}
 use Rattle.swift_base.specs.declared.place.Span.{Span}
 use Rattle.swift_base.specs.declared.plugins.Plugin.{Plugin}
 use Rattle.swift_tree.specs.declared.outline.Shape.TheVariants.{File}
 use Rattle.swift_tree.specs.Outlines.{OutlineSeen}
-use Rattle.decl_parser.specs.Outline.{OutlineOutcome, outline}
+use Rattle.decl_parser.specs.Outline.{IsOutline, OutlineOutcome, outline}
+use Rattle.decl_parser.proofs.Accepting.{outline_keeps_the_text}
+use Rattle.plugin_messages.specs.declared.request.Request.{Request}
 use Rattle.macro_decls.specs.Macros.{macros}
 use Rattle.macro_decls.specs.declared.fault.MacroFault.{MacroFault}
 use Rattle.macro_decls.specs.declared.table.MacroDecl.{MacroDecl}
-use Rattle.expansion_model.specs.Sites.{sites_of}
+use Rattle.expansion_model.specs.Answer.{answer_of, are_too_many, by_messages, lacks_outcome}
+use Rattle.expansion_model.specs.Buffers.{BufferSeen, IsSound, source_buffer}
+use Rattle.expansion_model.specs.BufferSites.{buffer_sites}
+use Rattle.expansion_model.specs.Laws.{replaced}
 use Rattle.expansion_model.specs.Spans.{spans_of}
-use Rattle.expansion_model.specs.declared.site.Site.{Site}
-use Rattle.plugin_messages.specs.declared.message.Outcome.{Outcome}
-use Rattle.link_driver.proofs.Runs.{processes_serve}
-use Rattle.link_driver.specs.Driven.{Each}
-use Rattle.link_driver.specs.Laws.{IsServedOf, OnlyLastKeysFail}
+use Rattle.expansion_model.specs.Table.{is_missing, is_none}
+use Rattle.expansion_model.specs.Visit.{Found, visit}
+use Rattle.expansion_model.specs.declared.answer.Answer.{Answer}
+use Rattle.expansion_model.specs.declared.answer.Answer.TheVariants as answer
+use Rattle.expansion_model.specs.declared.answer.LimitKind.TheVariants as limit
+use Rattle.expansion_model.specs.declared.message.Message.{Message}
+use Rattle.expansion_model.proofs.EditsOfSites.{edits_are_of_sites, edits_made}
+use Rattle.link_driver.proofs.Runs.{processes_serve, runs_ask_once, runs_give_links, runs_start_as_wanted}
+use Rattle.link_driver.specs.Laws as of_list
+use Rattle.link_driver.specs.Laws.{IsSublist, none, takes, skips, OnlyLastKeysFail}
 use Rattle.link_driver.specs.Links.{KeySteps, LinkSeen}
-use Rattle.link_driver.specs.Requests.{Wanted}
+use Rattle.link_driver.specs.LinkTable.{Look, asked_keys}
+use Rattle.link_driver.specs.Lists.{Each}
+use Rattle.link_driver.specs.Requests.{Wanted, key_of}
 use Rattle.result_splice.specs.Edits.{IsEdited}
 use Rattle.result_splice.specs.declared.edit.Edit.{Edit}
-use Rattle.expand_top.specs.Answer.{IsByLines, IsByMissing, is_line, is_missing, edits_in, reports_of}
-use Rattle.expand_top.specs.Asking.{Asking, IsExpansion, IsOutputOf, IsSiteOutput, are_too_many}
+use Rattle.result_splice.proofs.Lying.{makes_edits}
+use Rattle.expand_top.specs.Answers.{output_of}
+use Rattle.expand_top.specs.Asking.{Asking, AreDifferent, IsAskedOf, IsExpansion, IsOneOf, asked_in, is_limit, is_limited, output_in, times}
 use Rattle.expand_top.specs.Lines.{Output}
 use Rattle.expand_top.specs.Meaning.{Meaning, Refused, Means, NamedText, by_table, table_meaning, by_outline, source_meaning, by_macros, text_meaning, by_source, by_file, meaning_of}
-use Rattle.expand_top.specs.Promises.{KeepsOutside, KeepsBytes, LinksServe, RepliesInOrder, StatusHasCause, replaced, wanted_of_run}
+use Rattle.expand_top.specs.Promises.{AskedOnce, IsServedOf, KeepsOutside, KeepsBytes, LinksServe, RepliesInOrder, Starts, StatusHasCause}
 use Rattle.expand_top.specs.Run.{ReadsSource, ReadsNext, ReadsInputs, IsDelivered, whole, out_failed, err_failed, usage}
-use Rattle.expand_top.specs.Table.{outcome_of}
-use Rattle.expand_top.specs.declared.answer.Report.{Report}
 use Rattle.expand_top.specs.declared.ended.Inputs.{Inputs}
 use Rattle.expand_top.specs.declared.ended.SourceRead.{SourceRead}
 use Rattle.expand_top.specs.declared.ended.SourceRead.TheVariants as read
-use Rattle.expand_top.proofs.Reports.{reports_replace}
+use Rattle.expand_top.proofs.Times.{contains_permuted, counted, different_front, different_permuted, not_in_none, of_map, one_of, stands}
 
 -- a text that was read is refused with status 1
 abbrev IsLow : Meaning → Type 0
@@ -63,6 +77,55 @@ low_macros file source (Err fault) = refl
 low_text : (file : Option NamedText) (source : NamedText) → IsLow (text_meaning file source)
 low_text None source = low_source [] [] source
 low_text (Some file) source = low_macros file source (outline file.text File)
+
+-- a source that the files mean is an accepted one
+abbrev IsMeant : Meaning → Type 0
+IsMeant (Refused output) = Unit {0}
+IsMeant (Means source declared) = IsOutline source.text source.shape (Ok source)
+
+of_its_own : (text : List ℕ) (seen : OutlineSeen) → outline text File ≡ Ok seen → IsOutline seen.text seen.shape (Ok seen)
+of_its_own text seen is =
+    let kept = outline_keeps_the_text text File seen (sym is) in sym is ∙ ap₂ outline (sym kept.0) (sym kept.1)
+
+meant_declared : (files : List NamedText) (source : OutlineSeen) (found : Result (List MacroDecl) (List MacroFault)) → IsOutline source.text source.shape (Ok source) → IsMeant (by_table files source found)
+meant_declared files source (Ok declared) sound = sound
+meant_declared files source (Err faults) sound = tt
+
+meant_table : (files : List NamedText) (before : List OutlineSeen) (source : OutlineSeen) → IsOutline source.text source.shape (Ok source) → IsMeant (table_meaning files before source)
+unfolding table_meaning
+meant_table files before source sound = meant_declared files source (macros (before ++ source ∷ [])) sound
+
+meant_outline : (files : List NamedText) (before : List OutlineSeen) (source : NamedText) (found : OutlineOutcome) → outline source.text File ≡ found → IsMeant (by_outline files before source found)
+meant_outline files before source (Ok seen) is = meant_table (files ++ source ∷ []) before seen (of_its_own source.text seen is)
+meant_outline files before source (Err fault) is = tt
+
+meant_source : (files : List NamedText) (before : List OutlineSeen) (source : NamedText) → IsMeant (source_meaning files before source)
+unfolding source_meaning
+meant_source files before source = meant_outline files before source (outline source.text File) refl
+
+meant_macros : (file source : NamedText) (found : OutlineOutcome) → IsMeant (by_macros file source found)
+meant_macros file source (Ok seen) = meant_source (file ∷ []) (seen ∷ []) source
+meant_macros file source (Err fault) = tt
+
+meant_text : (file : Option NamedText) (source : NamedText) → IsMeant (text_meaning file source)
+meant_text None source = meant_source [] [] source
+meant_text (Some file) source = meant_macros file source (outline file.text File)
+
+meant_by_source : (name : List ℕ) (file : Option NamedText) (source : SourceRead) → IsMeant (by_source name file source)
+meant_by_source name file read.Nothing = tt
+meant_by_source name file read.Failed = tt
+meant_by_source name file read.Larger = tt
+meant_by_source name file (read.Bytes text) = meant_text file (record { name = name; text = text })
+
+meant_by_file : (file name : List ℕ) (macros_read source : SourceRead) → IsMeant (by_file file name macros_read source)
+meant_by_file file name read.Nothing source = tt
+meant_by_file file name read.Failed source = tt
+meant_by_file file name read.Larger source = tt
+meant_by_file file name (read.Bytes text) source = meant_by_source name (Some (record { name = file; text = text })) source
+
+meant : (file : Option (List ℕ)) (name : List ℕ) (inputs : Inputs) → IsMeant (meaning_of file name inputs)
+meant None name inputs = meant_by_source name None inputs.source
+meant (Some file) name inputs = meant_by_file file name inputs.macros inputs.source
 
 -- what the files mean, by whether a read failed
 abbrev IsKnown : FilesSeen → FilesSeen → Meaning → Type 0
@@ -97,26 +160,18 @@ known : (files after : FilesSeen) (file : Option (List ℕ)) (name : List ℕ) (
 known files after None name inputs reads = source_known files after name None inputs.source reads.1
 known files after (Some file) name inputs reads = file_known files reads.0 after file name inputs.macros inputs.source reads.1 reads.2
 
--- the status of what is written for a source
-lines_status : (text : List ℕ) (reports : List Report) (output : Output) (line : Bool) → IsByLines line text reports output → output.status < 2
-lines_status text reports output true is = omega (arith, ap (λ (w : Output). w.status) is)
-lines_status text reports output false is = omega (arith, ap (λ (w : Output). w.status) is.2)
+-- the status of what is written for an answer
+answer_status : (name : List ℕ) (answered : Answer) → (output_of name answered).status < 2
+answer_status name (answer.File bytes) = omega arith
+answer_status name (answer.Faults messages) = omega arith
+answer_status name (answer.Limit kind) = omega arith
 
-missing_status : (name text : List ℕ) (reports : List Report) (output : Output) (missing : Bool) → IsByMissing missing name text reports output → output.status < 2
-missing_status name text reports output true is = omega (arith, ap (λ (w : Output). w.status) is)
-missing_status name text reports output false is = lines_status text reports output (list_any is_line reports) is
-
-site_status : (name text : List ℕ) (declared : List MacroDecl) (sites : List Site) (asking : Asking) (output : Output) (many : Bool) → IsSiteOutput many name text declared sites asking output → output.status < 2
-site_status name text declared sites asking output true is = omega (arith, ap (λ (w : Output). w.status) is)
-site_status name text declared sites asking output false is =
-    let reports = reports_of name text declared (outcome_of is.0) sites in missing_status name text reports output (list_any is_missing reports) is.2
-
-output_status : (files after : FilesSeen) (name : List ℕ) (plugins : List Plugin) (means : Meaning) (asking : Asking) (output : Output) → IsKnown files after means → IsOutputOf name plugins means asking output
+output_status : (files after : FilesSeen) (name : List ℕ) (plugins : List Plugin) (means : Meaning) (table : Look) (output : Output) → IsKnown files after means → output ≡ output_in name plugins means table
     → ((output.status < 2) × (after.faults ≡ files.faults)) ⊎ ((output.status ≡ 3) × Rose files.faults after.faults)
-output_status files after name plugins (Refused refusal) asking output (inl low) is = inl (omega (arith, ap (λ (w : Output). w.status) is, low.0), low.1)
-output_status files after name plugins (Refused refusal) asking output (inr unread) is = inr (ap (λ (w : Output). w.status) is ∙ unread.0, unread.1)
-output_status files after name plugins (Means source declared) asking output same is =
-    inl (site_status name source.text declared (sites_of source declared plugins) asking output (are_too_many (sites_of source declared plugins)) is, same)
+output_status files after name plugins (Refused refusal) table output (inl low) is = inl (omega (arith, ap (λ (w : Output). w.status) is, low.0), low.1)
+output_status files after name plugins (Refused refusal) table output (inr unread) is = inr (ap (λ (w : Output). w.status) is ∙ unread.0, unread.1)
+output_status files after name plugins (Means source declared) table output same is =
+    inl (omega (arith, ap (λ (w : Output). w.status) is, answer_status name (answer_of declared plugins table (source_buffer name source))), same)
 
 -- what was written, where the status is 0
 delivered_zero : (out out_after err err_after : SinkSeen) (output : Output) (status : ℕ) → IsDelivered out out_after err err_after output status → status ≡ 0
@@ -125,48 +180,59 @@ delivered_zero out out_after err err_after output status (whole to_out to_err) z
 delivered_zero out out_after err err_after output status (out_failed front same) zero = absurd (omega arith)
 delivered_zero out out_after err err_after output status (err_failed to_out front) zero = absurd (omega arith)
 
--- the status is 0 where there is neither a line nor a missing outcome
-abbrev Kept : List ℕ → List Span → Output → Type 0
-Kept text spans output = (edits : List Edit) × (map replaced edits ≡ spans) × IsEdited text edits output.out
-
 no_zero : {A : Type 0} (output : Output) (n : ℕ) → output.status ≡ suc n → output.status ≡ 0 → A
 no_zero output n is zero = absurd (omega (arith, is, zero))
 
-module _ (name text : List ℕ) (declared : List MacroDecl) (table : KeySteps → Option Outcome) (sites : List Site) (output : Output) (zero : output.status ≡ 0) where
-  lines_kept : (line : Bool) → list_any is_missing (reports_of name text declared table sites) ≡ false → list_any is_line (reports_of name text declared table sites) ≡ line
-      → IsByLines line text (reports_of name text declared table sites) output → Kept text (spans_of sites) output
-  lines_kept true there is answer = no_zero output 0 (ap (λ (w : Output). w.status) answer) zero
-  lines_kept false there is answer = (
-    edits_in (reports_of name text declared table sites),
-    reports_replace name text declared table sites there is,
-    subst (IsEdited text (edits_in (reports_of name text declared table sites))) (sym (ap (λ (w : Output). w.out) answer.2)) answer.1,
-  )
+-- the bytes are those of a text with edits that replace these spans
+abbrev Kept : List ℕ → List Span → List ℕ → Type 0
+Kept text spans bytes = (edits : List Edit) × (map replaced edits ≡ spans) × IsEdited text edits bytes
 
-  missing_kept : (missing : Bool) → list_any is_missing (reports_of name text declared table sites) ≡ missing → IsByMissing missing name text (reports_of name text declared table sites) output
-      → Kept text (spans_of sites) output
-  missing_kept true is answer = no_zero output 0 (ap (λ (w : Output). w.status) answer) zero
-  missing_kept false is answer = lines_kept (list_any is_line (reports_of name text declared table sites)) is refl answer
+module _ (name : List ℕ) (plugins : List Plugin) (source : OutlineSeen) (declared : List MacroDecl) (table : Look) where
+  abbrev buffer : BufferSeen
+  buffer = source_buffer name source
 
-site_kept : (name text : List ℕ) (declared : List MacroDecl) (sites : List Site) (asking : Asking) (output : Output) (many : Bool) → output.status ≡ 0
-    → IsSiteOutput many name text declared sites asking output → Kept text (spans_of sites) output
-site_kept name text declared sites asking output true zero is = no_zero output 0 (ap (λ (w : Output). w.status) is) zero
-site_kept name text declared sites asking output false zero is =
-    missing_kept name text declared (outcome_of is.0) sites output zero (list_any is_missing (reports_of name text declared (outcome_of is.0) sites)) refl is.2
+  abbrev found : Found
+  found = visit declared plugins table buffer
 
-output_kept : (files after : FilesSeen) (name : List ℕ) (plugins : List Plugin) (means : Meaning) (asking : Asking) (output : Output) → IsKnown files after means → output.status ≡ 0
-    → IsOutputOf name plugins means asking output → KeepsOutside plugins means output.out
-output_kept files after name plugins (Refused refusal) asking output (inl low) zero is = no_zero output 0 (ap (λ (w : Output). w.status) is ∙ low.0) zero
-output_kept files after name plugins (Refused refusal) asking output (inr unread) zero is = no_zero output 2 (ap (λ (w : Output). w.status) is ∙ unread.0) zero
-output_kept files after name plugins (Means source declared) asking output same zero is =
-    let kept = site_kept name source.text declared (sites_of source declared plugins) asking output (are_too_many (sites_of source declared plugins)) zero is in
-    record { edits = kept.0; spans = kept.1; kept = kept.2 }
+  abbrev spans : List Span
+  spans = spans_of (buffer_sites declared plugins buffer)
+
+  -- the status is 0 where the answer is a file
+  messages_kept : IsSound buffer → lacks_outcome table found ≡ false → (messages : List Message) → found.messages ≡ messages → (output_of name (by_messages source.text found messages)).status ≡ 0
+      → Kept source.text spans (output_of name (by_messages source.text found messages)).out
+  messages_kept sound complete [] is zero =
+      (found.edits, edits_are_of_sites declared plugins table buffer complete is, makes_edits source.text found.edits (edits_made declared plugins table buffer sound))
+  messages_kept sound complete (message ∷ messages) is zero = no_zero (output_of name (by_messages source.text found (message ∷ messages))) 0 refl zero
+
+  lacks_kept : IsSound buffer → (b : Bool) → lacks_outcome table found ≡ b → (output_of name (if b then answer.Limit limit.Bytes else by_messages source.text found found.messages)).status ≡ 0
+      → Kept source.text spans (output_of name (if b then answer.Limit limit.Bytes else by_messages source.text found found.messages)).out
+  lacks_kept sound true is zero = no_zero (output_of name (answer.Limit limit.Bytes)) 0 refl zero
+  lacks_kept sound false is zero = messages_kept sound is found.messages refl zero
+
+  many_kept : IsSound buffer → (b : Bool)
+      → (output_of name (if b then answer.Limit limit.Requests else (if lacks_outcome table found then answer.Limit limit.Bytes else by_messages source.text found found.messages))).status ≡ 0
+      → Kept source.text spans (output_of name (if b then answer.Limit limit.Requests else (if lacks_outcome table found then answer.Limit limit.Bytes else by_messages source.text found found.messages))).out
+  many_kept sound true zero = no_zero (output_of name (answer.Limit limit.Requests)) 0 refl zero
+  many_kept sound false zero = lacks_kept sound (lacks_outcome table found) refl zero
+
+  answer_kept : IsSound buffer → (output_of name (answer_of declared plugins table buffer)).status ≡ 0 → Kept source.text spans (output_of name (answer_of declared plugins table buffer)).out
+  unfolding answer_of
+  answer_kept sound zero = many_kept sound (are_too_many found) zero
+
+output_kept : (files after : FilesSeen) (name : List ℕ) (plugins : List Plugin) (means : Meaning) (table : Look) (output : Output) → IsKnown files after means → IsMeant means → output.status ≡ 0
+    → output ≡ output_in name plugins means table → KeepsOutside name plugins means output.out
+output_kept files after name plugins (Refused refusal) table output (inl low) meant zero is = no_zero output 0 (ap (λ (w : Output). w.status) is ∙ low.0) zero
+output_kept files after name plugins (Refused refusal) table output (inr unread) meant zero is = no_zero output 2 (ap (λ (w : Output). w.status) is ∙ unread.0) zero
+output_kept files after name plugins (Means source declared) table output same meant zero is =
+    let kept = answer_kept name plugins source declared table meant (sym (ap (λ (w : Output). w.status) is) ∙ zero) in
+    record { edits = kept.0; spans = kept.1; kept = subst (IsEdited source.text kept.0) (sym (ap (λ (w : Output). w.out) is)) kept.2 }
 
 pub keeps_bytes : (file : Option (List ℕ)) (name : List ℕ) (plugins : List Plugin) (inputs : Inputs) (asking : Asking) (output : Output) (files files_after : FilesSeen)
     (out out_after err err_after : SinkSeen) (status : ℕ) → ReadsInputs files files_after file name inputs → IsExpansion name plugins (meaning_of file name inputs) asking output
     → IsDelivered out out_after err err_after output status → KeepsBytes file name plugins inputs status out out_after
 keeps_bytes file name plugins inputs asking output files files_after out out_after err err_after status reads is delivered zero =
     let wrote = delivered_zero out out_after err err_after output status delivered zero in
-    (output.out, output_kept files files_after name plugins (meaning_of file name inputs) asking output (known files files_after file name inputs reads) wrote.0 is.writes, wrote.1)
+    (output.out, output_kept files files_after name plugins (meaning_of file name inputs) is.table output (known files files_after file name inputs reads) (meant file name inputs) wrote.0 is.writes, wrote.1)
 
 whole_cause : (files files_after : FilesSeen) (out out_after err err_after : SinkSeen) (status : ℕ) → out_after.faults ≡ out.faults → err_after.faults ≡ err.faults
     → ((status < 2) × (files_after.faults ≡ files.faults)) ⊎ ((status ≡ 3) × Rose files.faults files_after.faults) → StatusHasCause status files files_after out out_after err err_after
@@ -206,7 +272,7 @@ pub status_has_cause : (file : Option (List ℕ)) (name : List ℕ) (plugins : L
     → IsDelivered out out_after err err_after output status → StatusHasCause status files files_after out out_after err err_after
 status_has_cause file name plugins inputs asking output files files_after out out_after err err_after status reads is (whole to_out to_err) =
     whole_cause files files_after out out_after err err_after output.status to_out.faults to_err.faults
-    (output_status files files_after name plugins (meaning_of file name inputs) asking output (known files files_after file name inputs reads) is.writes)
+    (output_status files files_after name plugins (meaning_of file name inputs) is.table output (known files files_after file name inputs reads) is.writes)
 status_has_cause file name plugins inputs asking output files files_after out out_after err err_after status reads is (out_failed front same) =
     four_cause files files_after out out_after err err_after (inl front.faults)
 status_has_cause file name plugins inputs asking output files files_after out out_after err err_after status reads is (err_failed to_out front) =
@@ -221,17 +287,101 @@ usage_is_not_five out out_after err err_after status (err_failed to_out front) f
 pub none_some : {A : Type 0} (x : A) → None ≡ Some x → ⊥
 none_some {A} x is = let P : Option A → Type 0 = λ o. elim o [ None ↦ Unit {0} | Some y ↦ ⊥ ] in subst P is tt
 
-serves : OnlyLastKeysFail → (wanted : List Wanted) (link : LinkSeen) → IsServedOf wanted link → IsServedOf wanted link × RepliesInOrder link
-serves law wanted link served = (served, λ outcomes table. law served.earlier served.last link outcomes served.serves table)
+-- a property of all holds of some of them
+all_of_some : (P : Wanted → Type 0) (some all : List Wanted) → IsSublist some all → All P all → All P some
+all_of_some P [] all (none others) each = All-nil P
+all_of_some P (first ∷ some) (first ∷ others) (takes first some others sub) each =
+    All-cons P first some (All-head P first others each) (all_of_some P some others sub (All-tail P first others each))
+all_of_some P some (first ∷ others) (skips first some others sub) each = all_of_some P some others sub (All-tail P first others each)
 
-all_serve : OnlyLastKeysFail → (wanted : List Wanted) (links : List LinkSeen) → Each (IsServedOf wanted) links → Each (λ link. IsServedOf wanted link × RepliesInOrder link) links
-all_serve law wanted [] each = tt
-all_serve law wanted (link ∷ links) each = (serves law wanted link each.0, all_serve law wanted links each.1)
+-- from what one run does to what it promises of its requests
+serves : OnlyLastKeysFail → (plugins : List Plugin) (asked : List Request) (wanted : List Wanted) → All (IsOneOf plugins asked) wanted → (link : LinkSeen) → of_list.IsServedOf wanted link
+    → IsServedOf plugins asked link × RepliesInOrder link
+serves law plugins asked wanted each link served = (
+  record { earlier = served.earlier; last = served.last; serves = served.serves; of_source = all_of_some (IsOneOf plugins asked) _ wanted served.wanted_so each },
+  λ outcomes table. law served.earlier served.last link outcomes served.serves table,
+)
 
-links_serve : OnlyLastKeysFail → (file : Option (List ℕ)) (name : List ℕ) (plugins : List Plugin) (inputs : Inputs) (asking : Asking)
-    → Each (IsServedOf (wanted_of_run file name plugins inputs)) asking.links → LinksServe file name plugins inputs asking
-links_serve law file name plugins inputs asking each = all_serve law (wanted_of_run file name plugins inputs) asking.links each
+all_serve : OnlyLastKeysFail → (plugins : List Plugin) (asked : List Request) (wanted : List Wanted) → All (IsOneOf plugins asked) wanted → (links : List LinkSeen) → Each (of_list.IsServedOf wanted) links
+    → Each (λ link. IsServedOf plugins asked link × RepliesInOrder link) links
+all_serve law plugins asked wanted all [] each = tt
+all_serve law plugins asked wanted all (link ∷ links) each = (serves law plugins asked wanted all link each.0, all_serve law plugins asked wanted all links each.1)
 
 pub links_served : OnlyLastKeysFail → (file : Option (List ℕ)) (name : List ℕ) (plugins : List Plugin) (inputs : Inputs) (asking : Asking) (output : Output)
     → IsExpansion name plugins (meaning_of file name inputs) asking output → LinksServe file name plugins inputs asking
-links_served law file name plugins inputs asking output is = links_serve law file name plugins inputs asking (processes_serve _ _ _ _ _ is.asks)
+links_served law file name plugins inputs asking output is =
+    (is.table, is.is_table, all_serve law plugins (asked_in name plugins (meaning_of file name inputs) is.table) is.asks.wanted is.asks.each asking.links (processes_serve _ _ _ _ _ is.asks.ran))
+
+pub starts_are_of : (file : Option (List ℕ)) (name : List ℕ) (plugins : List Plugin) (inputs : Inputs) (asking : Asking) (output : Output)
+    → IsExpansion name plugins (meaning_of file name inputs) asking output → Starts file name plugins inputs asking
+starts_are_of file name plugins inputs asking output is = record {
+  links = runs_give_links _ _ _ _ _ is.asks.ran;
+  table = is.table;
+  is_table = is.is_table;
+  commands = record { wanted = is.asks.wanted; of_source = is.asks.each; commands = runs_start_as_wanted _ _ _ _ _ is.asks.ran };
+}
+
+-- a request that is asked has an outcome, where none lacks one
+none_missing : (b others : Bool) → (b || others) ≡ false → (b ≡ false) × (others ≡ false)
+none_missing true others is = absurd (cc)
+none_missing false others is = (refl, is)
+
+missing_has : (table : Look) (requests : List Request) → list_any (is_missing table) requests ≡ false → (request : Request) → Contains requests request → table request.key ≡ None → ⊥
+missing_has table [] complete request has is = not_in_none request has
+missing_has table (first ∷ requests) complete request has is =
+    let both = none_missing (is_missing table first) (list_any (is_missing table) requests) complete in
+    elim (Contains-append_cases (first ∷ []) requests request has) [
+      | inl here ↦ let lacks : is_missing table first ≡ true = ap is_none (ap (λ (r : Request). table r.key) (one_of request first here) ∙ is) in absurd (cc)
+      | inr later ↦ missing_has table requests both.1 request later is
+    ]
+
+none_or_more : (n : ℕ) → ((0 < n) → ⊥) ⊎ (0 < n)
+none_or_more zero = inl (λ some. omega (arith, some))
+none_or_more (suc n) = inr (omega arith)
+
+-- where no limit was met each request has an outcome
+complete_by : (text : List ℕ) (found : Found) (many lacks : Bool) → is_limit (if many then answer.Limit limit.Requests else (if lacks then answer.Limit limit.Bytes else by_messages text found found.messages)) ≡ false → lacks ≡ false
+complete_by text found true lacks is = absurd (cc)
+complete_by text found false true is = absurd (cc)
+complete_by text found false false is = refl
+
+complete : (name : List ℕ) (plugins : List Plugin) (means : Meaning) (table : Look) → is_limited name plugins means table ≡ false → list_any (is_missing table) (asked_in name plugins means table) ≡ false
+unfolding answer_of
+complete name plugins (Refused output) table is = refl
+complete name plugins (Means source declared) table is =
+    let found = visit declared plugins table (source_buffer name source) in complete_by source.text found (are_too_many found) (lacks_outcome table found) is
+
+module _ (plugins : List Plugin) (asked : List Request) (asking : Asking) (asks : IsAskedOf plugins asked asking) where
+  abbrev keys : List KeySteps
+  keys = asked_keys asking.links asking.unstarted
+
+  abbrev once : of_list.AsksOnce asks.wanted asking.links asking.unstarted
+  once = runs_ask_once _ _ _ _ _ asks.ran
+
+  taken_keys : map key_of asks.wanted ≡ map key_of once.taken ++ map key_of once.left
+  taken_keys = ap (map key_of) once.in_order ∙ map-append key_of once.taken once.left
+
+  keys_differ : AreDifferent keys
+  keys_differ = different_permuted (map key_of once.taken) keys once.once (different_front (map key_of once.taken) (map key_of once.left) (subst AreDifferent taken_keys asks.different))
+
+  key_is_of : (key : KeySteps) → Contains keys key → (request : Request) × Contains asked request × (request.key ≡ key)
+  key_is_of key has =
+      let there = of_map key_of once.taken key (contains_permuted (map key_of once.taken) keys key once.once has) in
+      let one = All-contains (IsOneOf plugins asked) asks.wanted there.0 asks.each
+      (subst (λ (l : List Wanted). Contains l there.0) (sym once.in_order) (Contains-append_left once.taken once.left there.0 there.1)) in
+      (one.request, one.among, ap key_of (sym one.is) ∙ there.2)
+
+pub asked_once : (file : Option (List ℕ)) (name : List ℕ) (plugins : List Plugin) (inputs : Inputs) (asking : Asking) (output : Output)
+    → IsExpansion name plugins (meaning_of file name inputs) asking output → AskedOnce file name plugins inputs asking
+asked_once file name plugins inputs asking output is =
+    let means = meaning_of file name inputs in
+    let asked = asked_in name plugins means is.table in
+    let keys = asked_keys asking.links asking.unstarted in
+    (is.table, is.is_table, record {
+      different = keys_differ plugins asked asking is.asks;
+      of_source = key_is_of plugins asked asking is.asks;
+      all = λ unlimited request among. elim (none_or_more (times request.key keys)) [
+        | inl none_ ↦ absurd (missing_has is.table asked (complete name plugins means is.table unlimited) request among (is.is_table.no_others request.key (λ has. none_ (counted request.key keys has))))
+        | inr some ↦ stands request.key keys some
+      ];
+    })

@@ -1,28 +1,26 @@
--- What is asked for a source. This project's own.
-use Rattle.std.specs.Prelude.{◌≡◌, ℕ, ◌<◌, nat_lt, if◌then◌else◌, Bool, true, false, Option, List, [], ◌∷◌, count_by}
-use Rattle.std.specs.List.{flat_map}
+-- What is asked for a source, and what is written for it. This project's own.
+use Rattle.std.specs.Prelude.{◌≡◌, ℕ, ◌≤◌, Bool, true, false, List, [], All, map, sum_by}
+use Rattle.std.specs.Cmp.Lexicographic.{pointwise}
+use Rattle.std.specs.List.{Contains}
 use Rattle.std.specs.Option.{option_map_or}
 use Rattle.std.specs.Str.{IsUtf8}
 use Rattle.swift_base.specs.Outside.{StarterSeen}
 use Rattle.swift_base.specs.declared.plugins.Plugin.{Plugin}
-use Rattle.swift_tree.specs.Outlines.{OutlineSeen}
-use Rattle.plugin_messages.specs.declared.message.Outcome.{Outcome}
-use Rattle.macro_decls.specs.declared.table.MacroDecl.{MacroDecl}
+use Rattle.unique_names.specs.Steps.{step_eq}
+use Rattle.plugin_messages.specs.declared.request.Request.{Request}
+use Rattle.expansion_model.specs.Answer.{answer_of}
+use Rattle.expansion_model.specs.Buffers.{source_buffer}
 use Rattle.expansion_model.specs.Macros.{plugin_for}
-use Rattle.expansion_model.specs.Requests.{request_of}
-use Rattle.expansion_model.specs.Sites.{sites_of}
-use Rattle.expansion_model.specs.declared.site.Ask.{Ask}
-use Rattle.expansion_model.specs.declared.site.Site.{Site}
-use Rattle.expansion_model.specs.declared.site.Site.TheVariants as site
+use Rattle.expansion_model.specs.Visit.{visit}
+use Rattle.expansion_model.specs.declared.answer.Answer.{Answer}
+use Rattle.expansion_model.specs.declared.answer.Answer.TheVariants as answer
 use Rattle.link_driver.specs.Links.{KeySteps, LinkSeen}
-use Rattle.link_driver.specs.LinkTable.{IsRunTable}
+use Rattle.link_driver.specs.LinkTable.{Look, IsRunTable}
 use Rattle.link_driver.specs.Ran.{HasRun}
-use Rattle.link_driver.specs.Requests.{Wanted, wanted_of}
+use Rattle.link_driver.specs.Requests.{Wanted, wanted_of, key_of}
 use Rattle.link_driver.specs.declared.link.Unstarted.{Unstarted}
-use Rattle.expand_top.specs.Answer.{reports_of, IsAnswer}
-use Rattle.expand_top.specs.Faults.{too_many_requests}
-use Rattle.expand_top.specs.Lines.{Output, refuses}
-use Rattle.expand_top.specs.Table.{outcome_of}
+use Rattle.expand_top.specs.Answers.{output_of}
+use Rattle.expand_top.specs.Lines.{Output}
 use Rattle.expand_top.specs.Meaning.{Meaning, Refused, Means}
 
 -- a command that can be started: it is UTF-8
@@ -33,38 +31,29 @@ IsStartable plugin = IsUtf8 plugin.command
 abbrev pub command_for : List Plugin → List ℕ → List ℕ
 command_for plugins module_name = option_map_or (λ plugin. plugin.command) (plugin_for module_name plugins) []
 
--- the request of a use, and the command of its module
-abbrev pub wanted_for : List ℕ → List Plugin → List ℕ → Ask → Wanted
-wanted_for name plugins text ask = wanted_of (command_for plugins ask.target.module) (request_of name text ask)
+-- a request, and the command of its module
+abbrev pub wanted_for : List Plugin → Request → Wanted
+wanted_for plugins request = wanted_of (command_for plugins request.target.module) request
 
-abbrev pub wanted_at : List ℕ → List Plugin → List ℕ → Site → List Wanted
-wanted_at name plugins text (site.Asks ask) = wanted_for name plugins text ask ∷ []
-wanted_at name plugins text (site.Fault fault) = []
-wanted_at name plugins text (site.NotBuilt at) = []
-wanted_at name plugins text (site.Attribute span) = []
+-- what is asked for what the files mean, with a table of outcomes
+abbrev pub asked_in : List ℕ → List Plugin → Meaning → Look → List Request
+asked_in name plugins (Refused refusal) table = []
+asked_in name plugins (Means source macros) table = (visit macros plugins table (source_buffer name source)).asked
 
--- what sites ask for, in their order
-abbrev pub all_wanted : List ℕ → List Plugin → List ℕ → List Site → List Wanted
-all_wanted name plugins text sites = flat_map (wanted_at name plugins text) sites
+-- what is written for it
+abbrev pub output_in : List ℕ → List Plugin → Meaning → Look → Output
+output_in name plugins (Refused refusal) table = refusal
+output_in name plugins (Means source macros) table = output_of name (answer_of macros plugins table (source_buffer name source))
 
-abbrev pub is_asked : Site → Bool
-is_asked (site.Asks ask) = true
-is_asked (site.Fault fault) = false
-is_asked (site.NotBuilt at) = false
-is_asked (site.Attribute span) = false
+abbrev pub is_limit : Answer → Bool
+is_limit (answer.Limit kind) = true
+is_limit (answer.File bytes) = false
+is_limit (answer.Faults messages) = false
 
--- more requests than are asked for one source
-unfoldable pub are_too_many : List Site → Bool
-are_too_many sites = nat_lt 65536 (count_by is_asked sites)
-
--- what is asked for a source of which these are the sites
-abbrev pub site_wanted : List ℕ → List Plugin → List ℕ → List Site → List Wanted
-site_wanted name plugins text sites = if are_too_many sites then [] else all_wanted name plugins text sites
-
--- what is asked for what the files mean
-abbrev pub wanted_by : List ℕ → List Plugin → Meaning → List Wanted
-wanted_by name plugins (Refused output) = []
-wanted_by name plugins (Means source macros) = site_wanted name plugins source.text (sites_of source macros plugins)
+-- a limit was met
+abbrev pub is_limited : List ℕ → List Plugin → Meaning → Look → Bool
+is_limited name plugins (Refused refusal) table = false
+is_limited name plugins (Means source macros) table = is_limit (answer_of macros plugins table (source_buffer name source))
 
 -- What was asked: the processes and the failed starts that are handed back, and the starter before and after.
 pub record Asking : Type 0 where
@@ -76,26 +65,34 @@ pub record Asking : Type 0 where
 abbrev pub asking_of : List LinkSeen → List Unstarted → StarterSeen → StarterSeen → Asking
 asking_of links unstarted before after = record { links = links; unstarted = unstarted; before = before; after = after }
 
--- all of what is wanted was asked, and nothing else
-abbrev pub Asks : List Wanted → Asking → Type 0
-Asks wanted asking = HasRun wanted asking.before asking.links asking.unstarted asking.after
+-- one of the requests, with the command of its module
+pub record IsOneOf (plugins : List Plugin) (asked : List Request) (wanted : Wanted) : Type 0 where
+  pub request : Request
+  pub among : Contains asked request
+  pub is : wanted ≡ wanted_for plugins request
 
--- the output by the table of what was asked
-abbrev pub IsTableAnswer : List ℕ → List ℕ → List MacroDecl → List Site → Asking → Output → Type 0
-IsTableAnswer name text macros sites asking output =
-    (table : List (KeySteps × Outcome)) × IsRunTable asking.links asking.unstarted table × IsAnswer name text (reports_of name text macros (outcome_of table) sites) output
+abbrev pub one_if : Bool → ℕ
+one_if true = 1
+one_if false = 0
 
-abbrev pub IsSiteOutput : Bool → List ℕ → List ℕ → List MacroDecl → List Site → Asking → Output → Type 0
-IsSiteOutput true name text macros sites asking output = output ≡ refuses name 1 1 too_many_requests
-IsSiteOutput false name text macros sites asking output = IsTableAnswer name text macros sites asking output
+-- how often a key stands in a list
+abbrev pub times : KeySteps → List KeySteps → ℕ
+times key keys = sum_by (λ other. one_if (pointwise step_eq key other)) keys
 
--- what is written for what the files mean
-abbrev pub IsOutputOf : List ℕ → List Plugin → Meaning → Asking → Output → Type 0
-IsOutputOf name plugins (Refused refusal) asking output = output ≡ refusal
-IsOutputOf name plugins (Means source macros) asking output =
-    IsSiteOutput (are_too_many (sites_of source macros plugins)) name source.text macros (sites_of source macros plugins) asking output
+-- no key stands twice
+abbrev pub AreDifferent : List KeySteps → Type 0
+AreDifferent keys = (key : KeySteps) → times key keys ≤ 1
 
--- what is asked and written for what the files mean
+-- What was wanted, in the order in which it was asked: requests of the list, each at most once.
+pub record IsAskedOf (plugins : List Plugin) (asked : List Request) (asking : Asking) : Type 0 where
+  pub wanted : List Wanted
+  pub ran : HasRun wanted asking.before asking.links asking.unstarted asking.after
+  pub each : All (IsOneOf plugins asked) wanted
+  pub different : AreDifferent (map key_of wanted)
+
+-- What is asked and written for what the files mean: both by the table of what was asked.
 pub record IsExpansion (name : List ℕ) (plugins : List Plugin) (means : Meaning) (asking : Asking) (output : Output) : Type 0 where
-  pub asks : Asks (wanted_by name plugins means) asking
-  pub writes : IsOutputOf name plugins means asking output
+  pub table : Look
+  pub is_table : IsRunTable table asking.links asking.unstarted
+  pub asks : IsAskedOf plugins (asked_in name plugins means table) asking
+  pub writes : output ≡ output_in name plugins means table

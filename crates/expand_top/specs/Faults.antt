@@ -4,6 +4,10 @@ use Rattle.decl_parser.specs.declared.fault.ParseKind.{ParseKind}
 use Rattle.decl_parser.specs.declared.fault.ParseKind.TheVariants as kind
 use Rattle.macro_decls.specs.declared.fault.MacroKind.{MacroKind}
 use Rattle.macro_decls.specs.declared.fault.MacroKind.TheVariants as declaration
+use Rattle.expansion_model.specs.declared.answer.LimitKind.{LimitKind}
+use Rattle.expansion_model.specs.declared.answer.LimitKind.TheVariants as limit
+use Rattle.expansion_model.specs.declared.message.MessageText.{MessageText}
+use Rattle.expansion_model.specs.declared.message.MessageText.TheVariants as says
 use Rattle.expansion_model.specs.declared.site.SiteKind.{SiteKind}
 use Rattle.expansion_model.specs.declared.site.SiteKind.TheVariants as site
 
@@ -59,6 +63,7 @@ site_fault_text site.WrongRole name = quoting (codes "macro '") name (codes "' h
 site_fault_text site.NotOneBinding name = codes "an accessor macro needs a variable with one name"
 site_fault_text site.AccessorOnBody name = codes "an accessor macro needs a variable without a getter block"
 site_fault_text site.NoPlugin name = quoting (codes "no plug-in for module '") name (codes "'")
+site_fault_text site.Recursive name = quoting (codes "macro '") name (codes "' expands to itself in the same role")
 
 abbrev pub not_built : List ℕ
 not_built = codes "this form is not built yet"
@@ -67,8 +72,18 @@ not_built = codes "this form is not built yet"
 abbrev pub no_reply_text : List ℕ → List ℕ
 no_reply_text module_name = quoting (codes "plug-in '") module_name (codes "' gave no reply")
 
-abbrev pub too_many_requests : List ℕ
-too_many_requests = codes "the file needs more than 65536 expansions"
+-- one row a kind of message
+abbrev pub message_text : MessageText → List ℕ
+message_text (says.Parse kind) = fault_text kind
+message_text (says.Site kind name) = site_fault_text kind name
+message_text says.NotBuilt = not_built
+message_text (says.NoReply module_name) = no_reply_text module_name
+message_text (says.NoText macro_name) = quoting (codes "macro '") macro_name (codes "' gave no text")
+message_text (says.ForbiddenKind macro_name) = quoting (codes "macro '") macro_name (codes "' may not make this declaration here")
+message_text says.FileScopeArbitrary = codes "arbitrary names are not allowed at file scope"
+message_text (says.Uncovered name macro_name) = quoting (codes "the name '") name (quoting (codes "' is not in the list of macro '") macro_name (codes "'"))
 
-abbrev pub too_many_bytes : List ℕ
-too_many_bytes = codes "the plug-ins sent more than 67108864 bytes"
+-- one row a limit
+abbrev pub limit_text : LimitKind → List ℕ
+limit_text limit.Requests = codes "the file needs more than 65536 expansions"
+limit_text limit.Bytes = codes "the plug-ins sent more than 67108864 bytes"

@@ -3,9 +3,8 @@ pub mod Lines
 pub mod Faults
 pub mod Meaning
 pub mod Means
-pub mod Splices
-pub mod Table
-pub mod Answer
+pub mod Answers
 pub mod Asking
+pub mod UnderWay
 pub mod Run
 pub mod Promises

@@ -1,8 +1,8 @@
 -- What the code's meaning of files stands for, and what is known of it.
-use Rattle.std.specs.Prelude.{◌≡◌, ℕ, ◌≤◌, Option, Some, None, List, [], ◌∷◌, length, All, slice_get}
+use Rattle.std.specs.Prelude.{◌≡◌, ℕ, ◌≤◌, Ok, Option, Some, None, List, [], ◌∷◌, length, All, slice_get}
 use Rattle.swift_tree.specs.Outlines.{OutlineSeen, outline_of}
 use Rattle.macro_decls.specs.Macros.{IsDeclReadable}
-use Rattle.expansion_model.specs.Readable.{IsSource}
+use Rattle.decl_parser.specs.Outline.{IsOutline}
 use Rattle.expansion_model.specs.Requests.{IsPlaceIn}
 use Rattle.expand_top.specs.Lines.{output_seen}
 use Rattle.expand_top.specs.Meaning.{Meaning, Refused, Means, NamedText}
@@ -40,7 +40,7 @@ AreShort files = All IsShortText files
 
 -- an accepted source, of a text that is not too long
 abbrev pub IsSoundSource : OutlineSeen → Type 0
-IsSoundSource source = IsSource source × (length source.text ≤ 4194304)
+IsSoundSource source = IsOutline source.text source.shape (Ok source) × (length source.text ≤ 4194304)
 
 -- a source is an accepted one, and its macros can be asked for
 abbrev pub IsSound : code.Meaning → Type 0

@@ -1,22 +1,31 @@
-// What is asked for a source.
-ghost use Rattle.std.specs.Prelude.{◌≡◌, ◌++◌, ◌∷◌, [], ◌<◌, ◌-◌, ◌^◌, List, IfOk, length, map};
-ghost use Rattle.std.specs.List.{All, flat_map};
+// Asking what a source wants, round after round.
+ghost use Rattle.std.specs.Prelude.{◌≡◌, [], None, List, IfOk, map};
+ghost use Rattle.std.specs.List.{All, Contains};
 ghost use Rattle.swift_base.specs.Outside.{StarterSeen};
-ghost use Rattle.expansion_model.specs.Readable.{IsAskReadable, IsSiteReadable};
-ghost use Rattle.expansion_model.specs.Requests.{IsPlaceIn, place_of};
-ghost use Rattle.link_driver.specs.Driven.{IsDriven, IsSound, driver_seen};
+ghost use Rattle.swift_base.specs.declared.plugins.Plugin.{Plugin};
+ghost use Rattle.macro_decls.specs.Macros.{IsDeclReadable};
+ghost use Rattle.macro_decls.specs.declared.table.MacroDecl.{MacroDecl};
+ghost use Rattle.expansion_model.specs.Answer.{answer_of};
+ghost use Rattle.expansion_model.specs.Buffers.{BufferSeen, IsSound, buffer_seen};
+ghost use Rattle.expansion_model.specs.Table.{IsWithin, look};
+ghost use Rattle.plugin_messages.specs.Writable.{IsRequestWritable};
+ghost use Rattle.link_driver.specs.Driven as driven;
+ghost use Rattle.link_driver.specs.Driven.{IsSpent, driver_seen};
 ghost use Rattle.link_driver.specs.Links.{link_seen};
 ghost use Rattle.link_driver.specs.Ran.{HasRun};
-ghost use Rattle.link_driver.specs.Requests.{Wanted};
-ghost use Rattle.expand_top.specs.Asking.{IsStartable, command_for, is_asked, wanted_for, wanted_at, are_too_many};
+ghost use Rattle.link_driver.specs.Told.{IsPut};
+ghost use Rattle.expand_top.specs.Asking.{IsStartable, asking_of, command_for};
+ghost use Rattle.expand_top.specs.UnderWay.{asked_with, IsAnswered, IsUnderWay};
 
-use expansion_model::{Ask, FIRST_PLACE, Place, Site, place_from, plugin_for, request_of};
-use link_driver::{Driver, Ran, ask, finish};
+use expansion_model::{
+    Answer, Buffer, LimitKind, MOST_REQUESTS, Step, Table, asked_requests_grow, expand_with,
+    plugin_for, requests_are_writable,
+};
+use link_driver::{Asked, Driver, Ran, ask, finish, is_spent};
+use macro_decls::MacroTable;
+use plugin_messages::Request;
 use std::alloc::{AllocError, Global};
-use swift_base::{Plugin, Starter};
-
-/// How many requests are asked for one source.
-pub const MOST_REQUESTS: usize = 65_536;
+use swift_base::{Plugin, Plugins, Starter};
 
 /// The command of a module.
 fn command_for<'a>(plugins: &'a [Plugin], module_name: &[u8]) -> &'a str
@@ -32,87 +41,6 @@ fn command_for<'a>(plugins: &'a [Plugin], module_name: &[u8]) -> &'a str
     }
 }
 
-fn is_asked(site: &Site) -> bool
-    ensures { result ≡ is_asked site.now }
-{
-    matches!(site, Site::Asks(_))
-}
-
-/// More requests than are asked for one source.
-#[tactic(auto, unfolding(crate::specs::Asking::are_too_many))]
-pub fn are_too_many(sites: &[Site]) -> bool
-    ensures { result ≡ are_too_many sites.now }
-{
-    sites.iter().filter(|site| is_asked(site)).count() > MOST_REQUESTS
-}
-
-// The driver with the request of a use.
-fn ask_use<P: Starter>(
-    alloc: Global,
-    driver: Driver<P::Writer, P::Reader>,
-    starter: &mut P,
-    name: &[u8],
-    plugins: &[Plugin],
-    text: &[u8],
-    place: Place,
-    wanted: &Ask,
-) -> Result<Driver<P::Writer, P::Reader>, AllocError>
-    requires commands { All IsStartable plugins.now }
-    requires place { place ≡ place_of text.now wanted.now.macro_use.span.start }
-    requires readable { IsAskReadable text.now wanted.now }
-    requires sound { IsSound (driver_seen P.Writer.seen P.Reader.seen driver) }
-    ensures sound { IfOk result (λ next. IsSound (driver_seen P.Writer.seen P.Reader.seen next)) }
-    ensures driven { (earlier : List Wanted) (before : StarterSeen)
-        → IsDriven earlier before (driver_seen P.Writer.seen P.Reader.seen driver) (P.seen starter.old)
-        → IfOk result (λ next. IsDriven (earlier ++ wanted_for name.now plugins.now text.now wanted.now ∷ []) before
-        (driver_seen P.Writer.seen P.Reader.seen next) (P.seen starter.new)) }
-{
-    let request = request_of(alloc, name, text, place, wanted)?;
-    let command = command_for(plugins, wanted.target.module.bytes());
-    ask(alloc, driver, starter, command, &request)
-}
-
-// A driver, and a place of the text up to which its requests stand.
-#[derive(Drop)]
-struct Reached<W: Drop, R: Drop> {
-    driver: Driver<W, R>,
-    place: Place,
-}
-
-// The driver with the request of a site, where it has one.
-#[tactic(auto, unfolding(expansion_model::specs::Requests::place_of))]
-fn ask_site<P: Starter>(
-    alloc: Global,
-    reached: Reached<P::Writer, P::Reader>,
-    starter: &mut P,
-    name: &[u8],
-    plugins: &[Plugin],
-    text: &[u8],
-    site: &Site,
-) -> Result<Reached<P::Writer, P::Reader>, AllocError>
-    requires short { length text.now < 2 ^ 32 - 1 }
-    requires commands { All IsStartable plugins.now }
-    requires place { IsPlaceIn text.now reached.place }
-    requires readable { IsSiteReadable text.now site.now }
-    requires sound { IsSound (driver_seen P.Writer.seen P.Reader.seen reached.driver) }
-    ensures sound { IfOk result (λ next. IsSound (driver_seen P.Writer.seen P.Reader.seen next.driver)) }
-    ensures place { IfOk result (λ next. IsPlaceIn text.now next.place) }
-    ensures driven { (earlier : List Wanted) (before : StarterSeen)
-        → IsDriven earlier before (driver_seen P.Writer.seen P.Reader.seen reached.driver) (P.seen starter.old)
-        → IfOk result (λ next. IsDriven (earlier ++ wanted_at name.now plugins.now text.now site.now) before
-        (driver_seen P.Writer.seen P.Reader.seen next.driver) (P.seen starter.new)) }
-{
-    match site {
-        Site::Asks(wanted) => {
-            let Reached { driver, place } = reached;
-            let place = place_from(text, place, wanted.macro_use.span.start);
-            let driver = ask_use(alloc, driver, starter, name, plugins, text, place, wanted)?;
-            Ok(Reached { driver, place })
-        }
-        Site::Fault(_) | Site::NotBuilt(_) | Site::Attribute(_) => Ok(reached),
-    }
-}
-
 /// Nothing is asked.
 pub fn ask_nothing<P: Starter>(
     alloc: Global,
@@ -123,28 +51,168 @@ pub fn ask_nothing<P: Starter>(
     finish(Driver::new(alloc))
 }
 
-/// The requests of sites, asked one after another in their order.
-#[tactic(auto, unfolding(expansion_model::specs::Requests::place_of))]
-pub fn ask_sites<P: Starter>(
+// What was done so far, and the outcomes that came.
+#[derive(Drop)]
+struct UnderWay<W: Drop, R: Drop> {
+    driver: Driver<W, R>,
+    table: Table,
+}
+
+fn put_outcome<W: Drop, R: Drop>(
+    table: Table,
+    request: &Request,
+    asked: Asked<W, R>,
+) -> Result<UnderWay<W, R>, AllocError>
+    ensures driver { IfOk result (λ next. next.driver ≡ asked.driver) }
+    ensures table { IfOk result (λ next. IsPut (look table) request.now.key asked.outcome (look next.table)) }
+{
+    let mut table = table;
+    let Asked { driver, outcome } = asked;
+    if let Some(outcome) = outcome {
+        table.put(request.key.clone()?, outcome)?;
+        return Ok(UnderWay { driver, table });
+    }
+    Ok(UnderWay { driver, table })
+}
+
+// Asks a request that has no outcome.
+fn ask_one<P: Starter>(
+    alloc: Global,
+    way: UnderWay<P::Writer, P::Reader>,
+    starter: &mut P,
+    plugins: &[Plugin],
+    request: &Request,
+) -> Result<UnderWay<P::Writer, P::Reader>, AllocError>
+    requires commands { All IsStartable plugins.now }
+    requires writable { IsRequestWritable request.now }
+    requires missing { look way.table request.now.key ≡ None }
+    requires sound { driven.IsSound (driver_seen P.Writer.seen P.Reader.seen way.driver) }
+    ensures sound { IfOk result (λ next. driven.IsSound (driver_seen P.Writer.seen P.Reader.seen next.driver)) }
+    ensures wider { IfOk result (λ next. IsWithin (look way.table) (look next.table)) }
+    ensures under_way { (macros : List MacroDecl) (source : BufferSeen) (before : StarterSeen)
+        → IsUnderWay macros plugins.now source before (driver_seen P.Writer.seen P.Reader.seen way.driver) (look way.table) (P.seen starter.old)
+        → (IsSpent (driver_seen P.Writer.seen P.Reader.seen way.driver) → ⊥) → Contains (asked_with macros plugins.now source (look way.table)) request.now
+        → IfOk result (λ next. IsUnderWay macros plugins.now source before (driver_seen P.Writer.seen P.Reader.seen next.driver) (look next.table) (P.seen starter.new)) }
+{
+    asked_requests_grow();
+    let UnderWay { driver, table } = way;
+    let command = command_for(plugins, request.target.module.bytes());
+    let asked = ask(alloc, driver, starter, command, request)?;
+    put_outcome(table, request, asked)
+}
+
+// Asks those of the requests that have no outcome, as long as anything is asked.
+fn ask_each<P: Starter>(
+    alloc: Global,
+    way: UnderWay<P::Writer, P::Reader>,
+    starter: &mut P,
+    plugins: &[Plugin],
+    requests: &[Request],
+) -> Result<UnderWay<P::Writer, P::Reader>, AllocError>
+    requires commands { All IsStartable plugins.now }
+    requires writable { All IsRequestWritable requests.now }
+    requires sound { driven.IsSound (driver_seen P.Writer.seen P.Reader.seen way.driver) }
+    ensures sound { IfOk result (λ next. driven.IsSound (driver_seen P.Writer.seen P.Reader.seen next.driver)) }
+    ensures under_way { (macros : List MacroDecl) (source : BufferSeen) (before : StarterSeen)
+        → IsUnderWay macros plugins.now source before (driver_seen P.Writer.seen P.Reader.seen way.driver) (look way.table) (P.seen starter.old)
+        → All (Contains (asked_with macros plugins.now source (look way.table))) requests.now
+        → IfOk result (λ next. IsUnderWay macros plugins.now source before (driver_seen P.Writer.seen P.Reader.seen next.driver) (look next.table) (P.seen starter.new)) }
+{
+    asked_requests_grow();
+    let mut way = way;
+    'requests: for request in requests {
+        if !is_spent(&way.driver) && way.table.get(&request.key).is_none() {
+            way = ask_one(alloc, way, starter, plugins, request)?;
+        }
+    }
+    Ok(way)
+}
+
+// The answer for a source, and what was asked for it.
+#[derive(Drop)]
+pub struct Answered<W: Drop, R: Drop> {
+    pub ran: Ran<W, R>,
+    pub answer: Answer,
+}
+
+fn finished<P: Starter>(
+    way: UnderWay<P::Writer, P::Reader>,
+    answer: Answer,
+) -> Result<Answered<P::Writer, P::Reader>, AllocError>
+    requires { driven.IsSound (driver_seen P.Writer.seen P.Reader.seen way.driver) }
+    ensures { (macros : List MacroDecl) (plugins : List Plugin) (source : BufferSeen) (before after : StarterSeen)
+        → IsUnderWay macros plugins source before (driver_seen P.Writer.seen P.Reader.seen way.driver) (look way.table) after
+        → answer ≡ answer_of macros plugins (look way.table) source
+        → IfOk result (λ f. IsAnswered macros plugins source (asking_of (map (link_seen P.Writer.seen P.Reader.seen) f.ran.links.items) f.ran.unstarted.items before after) f.answer) }
+{
+    let ran = finish(way.driver)?;
+    Ok(Answered { ran, answer })
+}
+
+fn started<P: Starter>(alloc: Global) -> UnderWay<P::Writer, P::Reader>
+    ensures sound { driven.IsSound (driver_seen P.Writer.seen P.Reader.seen result.driver) }
+    ensures under_way { (macros : List MacroDecl) (plugins : List Plugin) (source : BufferSeen) (before : StarterSeen)
+        → IsUnderWay macros plugins source before (driver_seen P.Writer.seen P.Reader.seen result.driver) (look result.table) before }
+{
+    UnderWay {
+        driver: Driver::new(alloc),
+        table: Table::new(alloc),
+    }
+}
+
+// One round: what has no outcome is asked, the first request in any case.
+fn ask_round<P: Starter>(
+    alloc: Global,
+    way: UnderWay<P::Writer, P::Reader>,
+    starter: &mut P,
+    plugins: &[Plugin],
+    first: &Request,
+    others: &[Request],
+) -> Result<UnderWay<P::Writer, P::Reader>, AllocError>
+    requires commands { All IsStartable plugins.now }
+    requires first { IsRequestWritable first.now }
+    requires others { All IsRequestWritable others.now }
+    requires missing { look way.table first.now.key ≡ None }
+    requires sound { driven.IsSound (driver_seen P.Writer.seen P.Reader.seen way.driver) }
+    ensures sound { IfOk result (λ next. driven.IsSound (driver_seen P.Writer.seen P.Reader.seen next.driver)) }
+    ensures under_way { (macros : List MacroDecl) (source : BufferSeen) (before : StarterSeen)
+        → IsUnderWay macros plugins.now source before (driver_seen P.Writer.seen P.Reader.seen way.driver) (look way.table) (P.seen starter.old)
+        → (IsSpent (driver_seen P.Writer.seen P.Reader.seen way.driver) → ⊥) → Contains (asked_with macros plugins.now source (look way.table)) first.now
+        → All (Contains (asked_with macros plugins.now source (look way.table))) others.now
+        → IfOk result (λ next. IsUnderWay macros plugins.now source before (driver_seen P.Writer.seen P.Reader.seen next.driver) (look next.table) (P.seen starter.new)) }
+{
+    asked_requests_grow();
+    let way = ask_one(alloc, way, starter, plugins, first)?;
+    ask_each(alloc, way, starter, plugins, others)
+}
+
+/// The answer for a source: what has no outcome is asked, round after round, until there is nothing more to ask, or
+/// until the processes gave more bytes than are read.
+pub fn expand_source<P: Starter>(
     alloc: Global,
     starter: &mut P,
-    name: &[u8],
-    plugins: &[Plugin],
-    text: &[u8],
-    sites: &[Site],
-) -> Result<Ran<P::Writer, P::Reader>, AllocError>
-    requires short { length text.now < 2 ^ 32 - 1 }
+    plugins: &Plugins,
+    source: &Buffer,
+    macros: &MacroTable,
+) -> Result<Answered<P::Writer, P::Reader>, AllocError>
+    requires sound { IsSound (buffer_seen source.now) }
+    requires readable { All IsDeclReadable macros.now }
     requires commands { All IsStartable plugins.now }
-    requires readable { All (IsSiteReadable text.now) sites.now }
-    ensures { IfOk result (λ ran. HasRun (flat_map (wanted_at name.now plugins.now text.now) sites.now) (P.seen starter.old)
-        (map (link_seen P.Writer.seen P.Reader.seen) ran.links.items) ran.unstarted.items (P.seen starter.new)) }
+    ensures { IfOk result (λ f. IsAnswered macros.now plugins.now (buffer_seen source.now)
+        (asking_of (map (link_seen P.Writer.seen P.Reader.seen) f.ran.links.items) f.ran.unstarted.items (P.seen starter.old) (P.seen starter.new)) f.answer) }
 {
-    let mut reached = Reached {
-        driver: Driver::new(alloc),
-        place: FIRST_PLACE,
-    };
-    'sites: for site in sites {
-        reached = ask_site(alloc, reached, starter, name, plugins, text, site)?;
+    requests_are_writable();
+    let mut way = started::<P>(alloc);
+    'rounds: for _ in 0..=MOST_REQUESTS {
+        match expand_with(alloc, source, macros, plugins, &way.table)? {
+            Step::Done(answer) => return finished::<P>(way, answer),
+            Step::Missing(first, others) => {
+                if is_spent(&way.driver) {
+                    return finished::<P>(way, Answer::Limit(LimitKind::Bytes));
+                }
+                way = ask_round(alloc, way, starter, plugins.list(), &first, &others)?;
+            }
+        }
     }
-    finish(reached.driver)
+    Err(AllocError)
 }

@@ -1,33 +1,28 @@
 // The top call.
-ghost use Rattle.std.specs.Prelude.{◌≡◌, ◌≤◌, ◌<◌, ◌^◌, ◌-◌, if◌then◌else◌, [], ◌∷◌, ℕ, List, Option, Some, None, length, map, IfOk, IfSome, OnOk, OnErr, string_bytes, option_map};
+ghost use Rattle.std.specs.Prelude.{◌≡◌, ◌≤◌, [], ◌∷◌, ℕ, List, Option, Some, None, length, map, IfOk, IfSome, OnOk, OnErr, string_bytes, option_map};
 ghost use Rattle.std.specs.List.{All};
 ghost use Rattle.std.specs.Option.{option_copied};
 ghost use Rattle.swift_base.specs.Outside.{StarterSeen};
 ghost use Rattle.swift_base.specs.declared.plugins.Plugin.{Plugin};
 ghost use Rattle.swift_tree.specs.Outlines.{outline_of};
 ghost use Rattle.macro_decls.specs.Macros.{IsDeclReadable};
-ghost use Rattle.expansion_model.specs.Readable.{IsSiteReadable};
-ghost use Rattle.expansion_model.specs.Spans.{LieApart, spans_of};
 ghost use Rattle.link_driver.specs.Links.{link_seen};
 ghost use Rattle.expand_top.specs.declared.command.Command.TheVariants as Command;
 ghost use Rattle.expand_top.specs.Command.{named_in, named_seen, command_named, command_of};
-ghost use Rattle.expand_top.specs.Asking.{IsStartable, IsExpansion, Asks, IsSiteOutput, IsTableAnswer, all_wanted, asking_of};
+ghost use Rattle.expand_top.specs.Asking.{IsStartable, IsExpansion, asking_of};
 ghost use Rattle.expand_top.specs.Lines.{output_seen};
 ghost use Rattle.expand_top.specs.Meaning.{Means, meaning_of};
 ghost use Rattle.expand_top.specs.Means.{meaning_seen, IsSound, IsSoundSource};
 ghost use Rattle.expand_top.specs.Run.{IsDelivered, GainsAll, GainsFront, ReadsSource, ReadsNext, ReadsInputs, IsShort, IsRefused, IsUnwritten, Expands, usage};
 ghost use Rattle.expand_top.specs.Promises.{AskedOnce, LinksServe, Starts, StopsHaveCause, FailedStartsHaveCause, KeepsBytes, StatusHasCause};
 
-use crate::answer::{answer, reports_of};
-use crate::asking::{are_too_many, ask_nothing, ask_sites};
+use crate::asking::{Answered, ask_nothing, expand_source};
 use crate::command::{Named, named_in, named_plugins};
 use crate::ended::{Ended, Inputs, SourceRead};
-use crate::faults::TOO_MANY_REQUESTS;
 use crate::meaning::{Meaning, meaning_of};
-use crate::report::{Output, refuses};
-use crate::table::Table;
-use expansion_model::{Site, sites, sites_lie_apart};
-use link_driver::{Closed, Ran, Unstarted, only_last_keys_fail, run_table};
+use crate::report::{Output, output_of};
+use expansion_model::Buffer;
+use link_driver::{Closed, Ran, Unstarted, only_last_keys_fail};
 use macro_decls::MacroTable;
 use std::alloc::{AllocError, Global};
 use swift_base::{FileFault, Files, Plugin, Plugins, Sink, Starter, Text, WriteFault, write_all};
@@ -145,99 +140,25 @@ fn expanded_with<W: Drop, R: Drop>(ran: Ran<W, R>, output: Output) -> Expansion<
     }
 }
 
-// What is written for the sites of a source, by the table of what was asked.
-fn site_output<P: Starter>(
-    alloc: Global,
-    name: &[u8],
-    source: &Outline,
-    macros: &MacroTable,
-    sites: &[Site],
-    ran: &Ran<P::Writer, P::Reader>,
-) -> Result<Output, AllocError>
-    requires short { length source.now.text < 2 ^ 32 - 1 }
-    requires apart { LieApart 0 (length source.now.text) (spans_of sites.now) }
-    ensures { (before after : StarterSeen) → IfOk result (λ output. IsTableAnswer name.now source.now.text macros.now sites.now
-        (asking_of (map (link_seen P.Writer.seen P.Reader.seen) ran.now.links.items) ran.now.unstarted.items before after) (output_seen output)) }
-{
-    let pairs = run_table(alloc, &ran.links, &ran.unstarted)?;
-    let table = Table::from_pairs(alloc, pairs)?;
-    let text = source.text.bytes();
-    let reports = reports_of(alloc, name, text, macros, &table, sites)?;
-    let output = answer(alloc, name, text, reports)?;
-    Ok(output)
-}
-
-// The sites where these requests are not too many.
-fn expand_asked<P: Starter>(
-    alloc: Global,
-    starter: &mut P,
-    name: &[u8],
-    plugins: &[Plugin],
-    source: &Outline,
-    macros: &MacroTable,
-    sites: &[Site],
-) -> Result<Expansion<P::Writer, P::Reader>, AllocError>
-    requires short { length source.now.text < 2 ^ 32 - 1 }
-    requires commands { All IsStartable plugins.now }
-    requires readable { All (IsSiteReadable source.now.text) sites.now }
-    requires apart { LieApart 0 (length source.now.text) (spans_of sites.now) }
-    ensures asks { IfOk result (λ e. Asks (all_wanted name.now plugins.now source.now.text sites.now)
-        (asking_of (map (link_seen P.Writer.seen P.Reader.seen) e.links.items) e.unstarted.items (P.seen starter.old) (P.seen starter.new))) }
-    ensures writes { IfOk result (λ e. IsTableAnswer name.now source.now.text macros.now sites.now
-        (asking_of (map (link_seen P.Writer.seen P.Reader.seen) e.links.items) e.unstarted.items (P.seen starter.old) (P.seen starter.new)) (output_seen e.output)) }
-{
-    let ran = ask_sites(alloc, starter, name, plugins, source.text.bytes(), sites)?;
-    let output = site_output::<P>(alloc, name, source, macros, sites, &ran)?;
-    Ok(expanded_with(ran, output))
-}
-
-fn expand_sites<P: Starter>(
-    alloc: Global,
-    starter: &mut P,
-    name: &[u8],
-    plugins: &[Plugin],
-    source: &Outline,
-    macros: &MacroTable,
-    sites: &[Site],
-    many: bool,
-) -> Result<Expansion<P::Writer, P::Reader>, AllocError>
-    requires short { length source.now.text < 2 ^ 32 - 1 }
-    requires commands { All IsStartable plugins.now }
-    requires readable { All (IsSiteReadable source.now.text) sites.now }
-    requires apart { LieApart 0 (length source.now.text) (spans_of sites.now) }
-    ensures asks { IfOk result (λ e. Asks (if many then [] else all_wanted name.now plugins.now source.now.text sites.now)
-        (asking_of (map (link_seen P.Writer.seen P.Reader.seen) e.links.items) e.unstarted.items (P.seen starter.old) (P.seen starter.new))) }
-    ensures writes { IfOk result (λ e. IsSiteOutput many name.now source.now.text macros.now sites.now
-        (asking_of (map (link_seen P.Writer.seen P.Reader.seen) e.links.items) e.unstarted.items (P.seen starter.old) (P.seen starter.new)) (output_seen e.output)) }
-{
-    if many {
-        let output = refuses(alloc, name, 1, 1, TOO_MANY_REQUESTS)?;
-        return Ok(expanded_with(ask_nothing(alloc, starter)?, output));
-    }
-    let expansion = expand_asked(alloc, starter, name, plugins, source, macros, sites)?;
-    Ok(expansion)
-}
-
-fn expand_source<P: Starter>(
+// What is asked and written for a source.
+fn expand_buffer<P: Starter>(
     alloc: Global,
     starter: &mut P,
     name: &[u8],
     plugins: &Plugins,
-    source: &Outline,
+    source: Outline,
     macros: &MacroTable,
 ) -> Result<Expansion<P::Writer, P::Reader>, AllocError>
-    requires sound { IsSoundSource (outline_of source.now) }
+    requires sound { IsSoundSource (outline_of source) }
     requires readable { All IsDeclReadable macros.now }
     requires commands { All IsStartable plugins.now }
-    ensures { IfOk result (λ e. IsExpansion name.now plugins.now (Means (outline_of source.now) macros.now)
+    ensures { IfOk result (λ e. IsExpansion name.now plugins.now (Means (outline_of source) macros.now)
         (asking_of (map (link_seen P.Writer.seen P.Reader.seen) e.links.items) e.unstarted.items (P.seen starter.old) (P.seen starter.new)) (output_seen e.output)) }
 {
-    sites_lie_apart();
-    let sites = sites(alloc, source, macros, plugins)?;
-    let many = are_too_many(&sites);
-    let plugins = plugins.list();
-    let expansion = expand_sites(alloc, starter, name, plugins, source, macros, &sites, many)?;
-    Ok(expansion)
+    let buffer = Buffer::source(alloc, name, source)?;
+    let Answered { ran, answer } = expand_source(alloc, starter, plugins, &buffer, macros)?;
+    let output = output_of(alloc, name, answer)?;
+    Ok(expanded_with(ran, output))
 }
 
 // What is asked and written for what the files mean.
@@ -256,7 +177,7 @@ fn expand_meaning<P: Starter>(
     match means {
         Meaning::Refused(output) => Ok(expanded_with(ask_nothing(alloc, starter)?, output)),
         Meaning::Means(source, macros) => {
-            expand_source(alloc, starter, name, plugins, &source, &macros)
+            expand_buffer(alloc, starter, name, plugins, source, &macros)
         }
     }
 }

@@ -1,9 +1,10 @@
 // What the lines of faults say.
 ghost use Rattle.std.specs.Prelude.{◌≡◌, IfOk};
-ghost use Rattle.expand_top.specs.Faults.{fault_text, quoting, macro_fault_text, site_fault_text, no_reply_text};
+ghost use Rattle.expansion_model.specs.declared.message.MessageText.TheVariants as says;
+ghost use Rattle.expand_top.specs.Faults.{fault_text, quoting, macro_fault_text, site_fault_text, no_reply_text, message_text, limit_text};
 
 use decl_parser::ParseKind;
-use expansion_model::SiteKind;
+use expansion_model::{LimitKind, MessageText, SiteKind};
 use macro_decls::MacroKind;
 use std::alloc::{AllocError, Global};
 
@@ -38,8 +39,8 @@ pub fn fault_text(kind: ParseKind) -> &'static [u8]
     }
 }
 
-/// A name in quotes between two texts.
-pub fn quoting(
+// A name in quotes between two texts.
+fn quoting(
     alloc: Global,
     before: &[u8],
     name: &[u8],
@@ -72,8 +73,8 @@ pub fn macro_fault_text(alloc: Global, kind: MacroKind, name: &[u8]) -> Result<V
     }
 }
 
-/// One row a kind of fault of a site, by the macro's name, or the module's.
-pub fn site_fault_text(alloc: Global, kind: SiteKind, name: &[u8]) -> Result<Vec<u8>, AllocError>
+// One row a kind of fault of a site, by the macro's name, or the module's.
+fn site_fault_text(alloc: Global, kind: SiteKind, name: &[u8]) -> Result<Vec<u8>, AllocError>
     ensures { IfOk result (λ v. v.items ≡ site_fault_text kind name.now) }
 {
     match kind {
@@ -95,18 +96,64 @@ pub fn site_fault_text(alloc: Global, kind: SiteKind, name: &[u8]) -> Result<Vec
             )
         }
         SiteKind::NoPlugin => quoting(alloc, b"no plug-in for module '", name, b"'"),
+        SiteKind::Recursive => quoting(
+            alloc,
+            b"macro '",
+            name,
+            b"' expands to itself in the same role",
+        ),
     }
 }
 
-/// Of a request whose plug-in has this module.
-pub fn no_reply_text(alloc: Global, module_name: &[u8]) -> Result<Vec<u8>, AllocError>
+// Of a request whose plug-in has this module.
+fn no_reply_text(alloc: Global, module_name: &[u8]) -> Result<Vec<u8>, AllocError>
     ensures { IfOk result (λ v. v.items ≡ no_reply_text module_name.now) }
 {
     quoting(alloc, b"plug-in '", module_name, b"' gave no reply")
 }
 
-pub const NOT_BUILT: &[u8] = b"this form is not built yet";
+const NOT_BUILT: &[u8] = b"this form is not built yet";
 
-pub const TOO_MANY_REQUESTS: &[u8] = b"the file needs more than 65536 expansions";
+fn uncovered_text(alloc: Global, name: &[u8], macro_name: &[u8]) -> Result<Vec<u8>, AllocError>
+    ensures { IfOk result (λ v. v.items ≡ message_text (says.Uncovered name.now macro_name.now)) }
+{
+    let behind = quoting(alloc, b"' is not in the list of macro '", macro_name, b"'")?;
+    quoting(alloc, b"the name '", name, &behind)
+}
 
-pub const TOO_MANY_BYTES: &[u8] = b"the plug-ins sent more than 67108864 bytes";
+/// One row a kind of message.
+pub fn message_text(alloc: Global, text: &MessageText) -> Result<Vec<u8>, AllocError>
+    ensures { IfOk result (λ v. v.items ≡ message_text text.now) }
+{
+    match text {
+        MessageText::Parse(kind) => Vec::from_slice(alloc, fault_text(*kind)),
+        MessageText::Site { kind, name } => site_fault_text(alloc, *kind, name.bytes()),
+        MessageText::NotBuilt => Vec::from_slice(alloc, NOT_BUILT),
+        MessageText::NoReply { module_name } => no_reply_text(alloc, module_name.bytes()),
+        MessageText::NoText { macro_name } => {
+            quoting(alloc, b"macro '", macro_name.bytes(), b"' gave no text")
+        }
+        MessageText::ForbiddenKind { macro_name } => quoting(
+            alloc,
+            b"macro '",
+            macro_name.bytes(),
+            b"' may not make this declaration here",
+        ),
+        MessageText::FileScopeArbitrary => {
+            Vec::from_slice(alloc, b"arbitrary names are not allowed at file scope")
+        }
+        MessageText::Uncovered { name, macro_name } => {
+            uncovered_text(alloc, name.bytes(), macro_name.bytes())
+        }
+    }
+}
+
+/// One row a limit.
+pub fn limit_text(kind: LimitKind) -> &'static [u8]
+    ensures { result.now ≡ limit_text kind }
+{
+    match kind {
+        LimitKind::Requests => b"the file needs more than 65536 expansions",
+        LimitKind::Bytes => b"the plug-ins sent more than 67108864 bytes",
+    }
+}

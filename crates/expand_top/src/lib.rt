@@ -3,7 +3,6 @@
 //! What these really are is left to the caller's implementations of the traits of `swift_base`.
 #![tactic(auto)]
 
-mod answer;
 mod asking;
 mod command;
 mod driver;
@@ -12,14 +11,12 @@ mod faults;
 mod meaning;
 mod report;
 mod slices;
-mod splice;
-mod table;
 mod texts;
 
-pub use asking::MOST_REQUESTS;
 pub use command::Command;
 pub use driver::{LARGEST_SOURCE, run};
 pub use ended::{Ended, Inputs, SourceRead};
+pub use expansion_model::MOST_REQUESTS;
 pub use link_driver::{Closed, MOST_BYTES, Stop, Unstarted};
 
 #[cfg(test)]

@@ -1,10 +1,13 @@
 // What is written to the two streams.
 ghost use Rattle.std.specs.Prelude.{◌≡◌, ◌<◌, ◌-◌, ◌^◌, ◌++◌, [], length, map, take, decimal, codes, IfOk, string_bytes};
 ghost use Rattle.expansion_model.specs.Requests.{place_of};
+ghost use Rattle.std.specs.List.{flat_map};
+ghost use Rattle.expand_top.specs.Answers.{message_line, output_of};
 ghost use Rattle.expand_top.specs.Lines.{plain_byte, plain, error_line, error_at, prints, faults, refuses, refuses_at, unread, output_seen};
 
+use crate::faults::{limit_text, message_text};
 use crate::slices::front;
-use expansion_model::Place;
+use expansion_model::{Answer, Message, Place};
 use std::alloc::{AllocError, Global};
 use swift_base::line_column;
 
@@ -138,4 +141,38 @@ pub fn unread(alloc: Global, name: &[u8]) -> Result<Output, AllocError>
         err,
         status: 3,
     })
+}
+
+fn put_message(alloc: Global, lines: &mut Vec<u8>, message: &Message) -> Result<(), AllocError>
+    ensures { IfOk result (λ _. lines.new.items ≡ lines.old.items ++ message_line message.now) }
+{
+    let text = message_text(alloc, &message.text)?;
+    let name = message.name.bytes();
+    let line = error_line(alloc, name, message.line, message.column, &text)?;
+    lines.extend_from_slice(&line)?;
+    Ok(())
+}
+
+fn message_lines(alloc: Global, messages: &[Message]) -> Result<Vec<u8>, AllocError>
+    ensures { IfOk result (λ lines. lines.items ≡ flat_map message_line messages.now) }
+{
+    let mut lines = Vec::new(alloc);
+    'messages: for message in messages {
+        put_message(alloc, &mut lines, message)?;
+    }
+    Ok(lines)
+}
+
+/// What is written for an answer; a limit stands at the beginning of the file of this name.
+pub fn output_of(alloc: Global, name: &[u8], answer: Answer) -> Result<Output, AllocError>
+    ensures { IfOk result (λ output. output_seen output ≡ output_of name.now answer) }
+{
+    match answer {
+        Answer::File(bytes) => Ok(prints(alloc, bytes.into_vec())),
+        Answer::Faults(messages) => {
+            let lines = message_lines(alloc, messages.items())?;
+            Ok(faults(alloc, lines))
+        }
+        Answer::Limit(kind) => refuses(alloc, name, 1, 1, limit_text(kind)),
+    }
 }

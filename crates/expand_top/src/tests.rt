@@ -13,7 +13,12 @@ const MACROS: &str = "\
 @freestanding(expression) macro outer(_ x: Int) -> Int = #externalMacro(module: \"A\", type: \"Outer\")
 @freestanding(expression) macro inner(_ x: Int) -> Int = #externalMacro(module: \"A\", type: \"Inner\")
 @freestanding(expression) macro absent() -> Int = #externalMacro(module: \"N\", type: \"Absent\")
+@freestanding(expression) macro twice(_ x: Int) -> Int = #externalMacro(module: \"A\", type: \"Twice\")
+@freestanding(expression) macro one(_ x: Int) -> Int = #externalMacro(module: \"A\", type: \"One\")
+@freestanding(expression) macro loop(_ x: Int) -> Int = #externalMacro(module: \"A\", type: \"Loop\")
 @freestanding(declaration) macro made() = #externalMacro(module: \"A\", type: \"Made\")
+@freestanding(declaration, names: named(f)) macro d() = #externalMacro(module: \"A\", type: \"D\")
+@freestanding(declaration, names: arbitrary) macro free() = #externalMacro(module: \"A\", type: \"Free\")
 @attached(peer) macro Peered() = #externalMacro(module: \"A\", type: \"Peered\")
 @attached(accessor) macro Stored() = #externalMacro(module: \"A\", type: \"Stored\")
 @attached(memberAttribute) macro Given() = #externalMacro(module: \"A\", type: \"Given\")
@@ -42,6 +47,27 @@ const SECOND_REQUEST: &str =
 /// Of `#outer(#inner(1))` behind `let v = `.
 const NESTED_REQUEST: &str =
     "#\u{1}\0\0\0\0\0\0{\"expandFreestandingMacro\":{\"discriminator\":\"$sX8e0_E\",\"macro\":{\"moduleName\":\"A\",\"name\":\"outer\",\"typeName\":\"Outer\"},\"macroRole\":\"expression\",\"syntax\":{\"kind\":\"expression\",\"location\":{\"column\":9,\"fileID\":\"main/r.swift\",\"fileName\":\"r.swift\",\"line\":1,\"offset\":8},\"source\":\"#outer(#inner(1))\"}}}";
+
+/// Of `#twice(x)` behind `let t = `, and of the two uses in its reply `#one(x) + #one(x)`, without their lengths.
+const TWICE_REQUEST: &str =
+    "{\"expandFreestandingMacro\":{\"discriminator\":\"$sX8e0_E\",\"macro\":{\"moduleName\":\"A\",\"name\":\"twice\",\"typeName\":\"Twice\"},\"macroRole\":\"expression\",\"syntax\":{\"kind\":\"expression\",\"location\":{\"column\":9,\"fileID\":\"main/r.swift\",\"fileName\":\"r.swift\",\"line\":1,\"offset\":8},\"source\":\"#twice(x)\"}}}";
+
+const LEFT_REQUEST: &str =
+    "{\"expandFreestandingMacro\":{\"discriminator\":\"$sX8e0_0e0_E\",\"macro\":{\"moduleName\":\"A\",\"name\":\"one\",\"typeName\":\"One\"},\"macroRole\":\"expression\",\"syntax\":{\"kind\":\"expression\",\"location\":{\"column\":1,\"fileID\":\"main/$sX8e0_E.swift\",\"fileName\":\"$sX8e0_E.swift\",\"line\":1,\"offset\":0},\"source\":\"#one(x)\"}}}";
+
+const RIGHT_REQUEST: &str =
+    "{\"expandFreestandingMacro\":{\"discriminator\":\"$sX8e0_10e0_E\",\"macro\":{\"moduleName\":\"A\",\"name\":\"one\",\"typeName\":\"One\"},\"macroRole\":\"expression\",\"syntax\":{\"kind\":\"expression\",\"location\":{\"column\":11,\"fileID\":\"main/$sX8e0_E.swift\",\"fileName\":\"$sX8e0_E.swift\",\"line\":1,\"offset\":10},\"source\":\"#one(x)\"}}}";
+
+/// The macros of the sample plug-in.
+const SAMPLE_MACROS: &str = "\
+@freestanding(expression) macro stringify<T>(_ value: T) -> (T, String) = #externalMacro(module: \"SampleMacros\", type: \"StringifyMacro\")
+@freestanding(declaration) macro funcUnique() = #externalMacro(module: \"SampleMacros\", type: \"FuncUniqueMacro\")
+@attached(peer, names: prefixed(_)) macro AddPeer() = #externalMacro(module: \"SampleMacros\", type: \"AddPeerMacro\")
+@attached(member, names: arbitrary) macro CaseDetection() = #externalMacro(module: \"SampleMacros\", type: \"CaseDetectionMacro\")
+@attached(memberAttribute) @attached(member, names: named(_storage)) macro Storage() = #externalMacro(module: \"SampleMacros\", type: \"StorageMembersMacro\")
+@attached(accessor) macro StorageAccessor() = #externalMacro(module: \"SampleMacros\", type: \"StorageAccessorMacro\")
+@attached(extension, conformances: Equatable) macro AddEquatable() = #externalMacro(module: \"SampleMacros\", type: \"EquatableExtensionMacro\")
+";
 
 const TWO_USES: &str = "let a = #p(1)\nlet b = #p(2)\n";
 
@@ -543,7 +569,7 @@ fn macro_declared_twice(rt: HostRuntime) -> Result<(), Fail> {
 }
 
 /// Texts with what is written about them: the faults of declarations, of uses and of attributes, and several of them.
-const FAULTS: [(&str, &str); 16] = [
+const FAULTS: [(&str, &str); 17] = [
     (
         "@freestanding(expression) macro p() = #externalMacro(module: \"A\", type: \"T\")\n",
         "r.swift:1:33: error: macro 'p' is declared twice\n",
@@ -605,6 +631,10 @@ const FAULTS: [(&str, &str); 16] = [
         "r.swift:1:1: error: macro 'p' has no role for this place\nr.swift:2:9: error: macro 'made' has no role for this place\n",
     ),
     (
+        "func f() { #d }\n",
+        "r.swift:1:12: error: macro 'd' has no role for this place\n",
+    ),
+    (
         "@p struct S {\n  #nothing\n  func f() { @p let x = #absent() }\n}\n",
         "r.swift:1:1: error: macro 'p' has no role for this place\nr.swift:2:3: error: no macro named 'nothing'\nr.swift:3:14: error: macro 'p' is attached in a local place\nr.swift:3:25: error: no plug-in for module 'N'\n",
     ),
@@ -619,16 +649,14 @@ fn faults_of_declarations_and_sites(rt: HostRuntime) -> Result<(), Fail> {
     Ok(())
 }
 
-/// Texts with the places at which a request of another role than expression would be asked.
-const NOT_BUILT: [(&str, &[&str]); 8] = [
-    ("#made()\n", &["1:1"]),
-    ("struct S {\n  #made()\n}\n", &["2:3"]),
+/// Texts with the places at which a request of an attached role would be asked.
+const NOT_BUILT: [(&str, &[&str]); 6] = [
     ("@Peered struct S {}\n", &["1:1"]),
     ("struct S {\n  @A @Stored var x = 1\n}\n", &["2:6"]),
-    // one a member that is no use
+    // one a member
     (
-        "@Given struct S {\n  var a = 1\n  #made()\n  var b = 2\n}\n",
-        &["1:1", "1:1", "3:3"],
+        "@Given struct S {\n  var a = 1\n  var b = 2\n}\n",
+        &["1:1", "1:1"],
     ),
     // as an attribute of members, as a member and as an extension
     ("@Many struct S { var a = 1 }\n", &["1:1", "1:1", "1:1"]),
@@ -657,7 +685,7 @@ fn places_that_are_not_built_yet(rt: HostRuntime) -> Result<(), Fail> {
 fn uses_beside_faults_are_asked(rt: HostRuntime) -> Result<(), Fail> {
     let alloc = rt.alloc();
     let content =
-        "#made()\nlet a = #p(1)\n@Peered struct S { let b = #nothing }\nlet c = #p(2)\nlet d = #p(3)\n";
+        "@Peered func f() {}\nlet a = #p(1)\n@Peered struct S { let b = #nothing }\nlet c = #p(2)\nlet d = #p(3)\n";
     let gives = answers(alloc, &["1", "2"])?;
     let scripts = one_script(alloc, gives, &ONE_FRAME_A_READ)?;
     let ran = run_with_macros(rt, content, scripts)?;
@@ -729,13 +757,18 @@ fn bad_replies_are_no_reply(rt: HostRuntime) -> Result<(), Fail> {
 }
 
 #[test]
-fn replies_without_a_text_or_with_a_diagnostic_wait(rt: HostRuntime) -> Result<(), Fail> {
+fn replies_without_a_text_or_with_a_diagnostic(rt: HostRuntime) -> Result<(), Fail> {
     let alloc = rt.alloc();
-    let no_text = "(\0\0\0\0\0\0\0{\"expandMacroResult\":{\"diagnostics\":[]}}";
     let warned =
         "\u{1}\u{1}\0\0\0\0\0\0{\"expandMacroResult\":{\"diagnostics\":[{\"fixIts\":[],\"highlights\":[],\"message\":\"the value is named twice here; it will be worked out once, and shown one time\",\"notes\":[],\"position\":{\"fileName\":\"r.swift\",\"offset\":8},\"severity\":\"warning\"}],\"expandedSource\":\"1\"}}";
-    let line = "r.swift:2:9: error: this form is not built yet\n";
-    for reply in [no_text, warned] {
+    let cases = [
+        (
+            "(\0\0\0\0\0\0\0{\"expandMacroResult\":{\"diagnostics\":[]}}",
+            "r.swift:2:9: error: macro 'stringify' gave no text\n",
+        ),
+        (warned, "r.swift:2:9: error: this form is not built yet\n"),
+    ];
+    for (reply, line) in cases {
         let gives = joined(alloc, &[GREETED, reply])?;
         let ran = expand_stringify(rt, gives.into_bytes(), &[])?;
         expect(&rt, &ran, 1, "", line);
@@ -760,14 +793,18 @@ fn refused_replies(rt: HostRuntime) -> Result<(), Fail> {
             "$sX145e0_E.swift:2:1: error: an expression was expected\n",
         ),
         ("", "$sX145e0_E.swift:1:1: error: the reply is empty\n"),
-        // a use, and an attribute of a declared macro
+        // a use of the same macro, one of none, and a local attribute
         (
-            "#stringify(1)",
-            "r.swift:2:9: error: this form is not built yet\n",
+            "f(#stringify(1))",
+            "$sX145e0_E.swift:1:3: error: macro 'stringify' expands to itself in the same role\n",
+        ),
+        (
+            "a +\\n  #nothing",
+            "$sX145e0_E.swift:2:3: error: no macro named 'nothing'\n",
         ),
         (
             "{ @stringify x in x }",
-            "r.swift:2:9: error: this form is not built yet\n",
+            "$sX145e0_E.swift:1:3: error: macro 'stringify' is attached in a local place\n",
         ),
     ];
     for (reply, line) in cases {
@@ -811,6 +848,242 @@ fn use_deep_inside(rt: HostRuntime) -> Result<(), Fail> {
         let ran = run_on(rt, words, &[("s.swift", &content)], scripts)?;
         expect(&rt, &ran, 0, &whole, "");
     }
+    Ok(())
+}
+
+// A process that replies with these texts, one frame a read.
+fn replying(alloc: Global, replies: &[&str]) -> Result<MemScript, AllocError> {
+    let mut sizes = Vec::from_slice(alloc, &[68u32])?;
+    for reply in replies {
+        sizes.push(reply.len().min(4096) as u32 + 68)?;
+    }
+    script(alloc, answers(alloc, replies)?, &sizes)
+}
+
+// The source r.swift, where the process of module `A` replies with these texts.
+fn expand_replying(rt: HostRuntime, content: &str, replies: &[&str]) -> Result<Ran, AllocError> {
+    let mut scripts = Vec::new(rt.alloc());
+    scripts.push(replying(rt.alloc(), replies)?)?;
+    run_with_macros(rt, content, scripts)
+}
+
+// One process was started, and was asked so many requests.
+fn expect_asked(rt: &impl Abort, ran: &Ran, count: usize) {
+    assert_eq!(rt; (ran.ended.links.len(), ran.ended.unstarted.len()), (1, 0));
+    assert_eq!(rt; ran.ended.links[0].asked.len(), count);
+}
+
+// What a process was given: the greeting, and these requests.
+fn sent(alloc: Global, requests: &[&str]) -> Result<Vec<u8>, AllocError> {
+    let mut frames = Vec::from_slice(alloc, GREETING.as_bytes())?;
+    for request in requests {
+        put_frame(&mut frames, request.as_bytes())?;
+    }
+    Ok(frames)
+}
+
+#[test]
+fn nested_uses_answered_in_any_order(rt: HostRuntime) -> Result<(), Fail> {
+    let alloc = rt.alloc();
+    let replies = ["#one(x) + #one(x)", "x1", "x2"];
+    let ran = expand_replying(rt, "let t = #twice(x)\n", &replies)?;
+    expect(&rt, &ran, 0, "let t = ((x1) + (x2))\n", "");
+    expect_asked(&rt, &ran, 3);
+    let frames = sent(alloc, &[TWICE_REQUEST, LEFT_REQUEST, RIGHT_REQUEST])?;
+    assert_eq!(rt; ran.ended.links[0].writer.held(), frames.as_slice());
+    Ok(())
+}
+
+// The process ends behind its second reply, and the third request starts another one.
+#[test]
+fn nested_use_without_a_reply(rt: HostRuntime) -> Result<(), Fail> {
+    let alloc = rt.alloc();
+    let replies = ["#one(x) + #one(x)", "x1"];
+    let ran = expand_replying(rt, "let t = #twice(x)\n", &replies)?;
+    let line = "$sX8e0_E.swift:1:11: error: plug-in 'A' gave no reply\n";
+    expect(&rt, &ran, 1, "", line);
+    expect_asked(&rt, &ran, 3);
+    let frames = sent(alloc, &[TWICE_REQUEST, LEFT_REQUEST, RIGHT_REQUEST])?;
+    assert_eq!(rt; ran.ended.links[0].writer.held(), frames.as_slice());
+    Ok(())
+}
+
+#[test]
+fn recursion_is_refused(rt: HostRuntime) -> Result<(), Fail> {
+    let ran = expand_replying(rt, "let v = #loop(1)\n", &["#loop(1)"])?;
+    let line = "$sX8e0_E.swift:1:1: error: macro 'loop' expands to itself in the same role\n";
+    expect(&rt, &ran, 1, "", line);
+    expect_asked(&rt, &ran, 1);
+    Ok(())
+}
+
+#[test]
+fn equal_uses_get_different_names(rt: HostRuntime) -> Result<(), Fail> {
+    let alloc = rt.alloc();
+    let mut scripts = Vec::new(alloc);
+    let replies = [
+        "func $sX0d0_E7__localfMu_() {}",
+        "func $sX12d0_E7__localfMu_() {}",
+    ];
+    scripts.push(replying(alloc, &replies)?)?;
+    let words = "expand --macros m.swift r.swift SampleMacros=plug";
+    let files = [
+        ("m.swift", SAMPLE_MACROS),
+        ("r.swift", "#funcUnique\n#funcUnique\n"),
+    ];
+    let ran = run_on(rt, words, &files, scripts)?;
+    let whole = "\nfunc $sX0d0_E7__localfMu_() {}\n\n\nfunc $sX12d0_E7__localfMu_() {}\n\n";
+    expect(&rt, &ran, 0, whole, "");
+    expect_asked(&rt, &ran, 2);
+    Ok(())
+}
+
+#[test]
+fn import_is_forbidden(rt: HostRuntime) -> Result<(), Fail> {
+    let ran = expand_replying(rt, "#d\n", &["import X"])?;
+    let line = "$sX0d0_E.swift:1:1: error: macro 'd' may not make this declaration here\n";
+    expect(&rt, &ran, 1, "", line);
+    expect_asked(&rt, &ran, 1);
+    Ok(())
+}
+
+#[test]
+fn empty_declaration_reply(rt: HostRuntime) -> Result<(), Fail> {
+    let ran = expand_replying(rt, "#d\n", &[""])?;
+    expect(&rt, &ran, 0, " \n", "");
+    expect_asked(&rt, &ran, 1);
+    Ok(())
+}
+
+/// Texts, the replies of one process in order, and the expanded files.
+const EXPANDED: [(&str, &[&str], &str); 7] = [
+    // a use in arguments of a reply's use is text, too
+    (
+        "let v = #outer(1)\n",
+        &["#inner(#p(2))", "#p(3) + 1", "4"],
+        "let v = (((4) + 1))\n",
+    ),
+    // each macro in replies of the other's sibling
+    (
+        "let v = [#outer(1), #inner(1)]\n",
+        &["#inner(2)", "#outer(2)", "a", "b"],
+        "let v = [((a)), ((b))]\n",
+    ),
+    ("#d\n", &["// nothing"], " \n"),
+    (
+        "#d\n",
+        &["func f() { #p(1) }", "2"],
+        "\nfunc f() { (2) }\n\n",
+    ),
+    (
+        "#d\n",
+        &["#made", "let $sX0d0_0d0_E1aMu_ = 1"],
+        "\n\nlet $sX0d0_0d0_E1aMu_ = 1\n\n\n",
+    ),
+    (
+        "struct S {\n  #free\n}\n",
+        &["init() {}; var x = 1"],
+        "struct S {\n  \ninit() {}; var x = 1\n\n}\n",
+    ),
+    ("struct S { #free }\n", &[""], "struct S {   }\n"),
+];
+
+#[test]
+fn replies_are_expanded_in_place(rt: HostRuntime) -> Result<(), Fail> {
+    for (content, replies, whole) in &EXPANDED {
+        let ran = expand_replying(rt, content, replies)?;
+        expect(&rt, &ran, 0, whole, "");
+        expect_asked(&rt, &ran, replies.len());
+    }
+    Ok(())
+}
+
+/// Texts, the replies of one process in order, and what is written about them.
+const REFUSED: [(&str, &[&str], &str); 11] = [
+    // the other use is asked all the same
+    (
+        "let t = #twice(x)\n",
+        &["#absent + #one(x)", "x2"],
+        "$sX8e0_E.swift:1:1: error: no plug-in for module 'N'\n",
+    ),
+    (
+        "let v = #outer(1)\n",
+        &["#inner(1)", "#outer(1)"],
+        "$sX8e0_0e0_E.swift:1:1: error: macro 'outer' expands to itself in the same role\n",
+    ),
+    (
+        "#d\n",
+        &["#d"],
+        "$sX0d0_E.swift:1:1: error: macro 'd' expands to itself in the same role\n",
+    ),
+    (
+        "#d\n",
+        &["func f() {}\\nfunc g() {}"],
+        "$sX0d0_E.swift:2:6: error: the name 'g' is not in the list of macro 'd'\n",
+    ),
+    (
+        "#d\n#d\n",
+        &["let $sX0d0_E1aMu_ = 1", "let $sX0d0_E1aMu_ = 1"],
+        "$sX3d0_E.swift:1:5: error: the name '$sX0d0_E1aMu_' is not in the list of macro 'd'\n",
+    ),
+    (
+        "#free\n",
+        &["let x = 1"],
+        "$sX0d0_E.swift:1:1: error: arbitrary names are not allowed at file scope\n",
+    ),
+    (
+        "#free\n",
+        &["init() {}"],
+        "$sX0d0_E.swift:1:1: error: macro 'free' may not make this declaration here\n",
+    ),
+    (
+        "struct S { #free }\n",
+        &["extension S {}"],
+        "$sX11d0_E.swift:1:1: error: macro 'free' may not make this declaration here\n",
+    ),
+    (
+        "#d\n",
+        &["struct"],
+        "$sX0d0_E.swift:1:1: error: a name was expected\n",
+    ),
+    // what is said of a reply stands where its use does
+    (
+        "let a = #nothing\nlet b = #p(1)\nlet c = #nothing\n",
+        &[")"],
+        "r.swift:1:9: error: no macro named 'nothing'\n$sX25e0_E.swift:1:1: error: this bracket was not opened\nr.swift:3:9: error: no macro named 'nothing'\n",
+    ),
+    // the members of a type with an attribute that isn't built yet
+    (
+        "@Given struct S {\n  var a = 1\n  #made\n}\n",
+        &["let x = 1"],
+        "r.swift:1:1: error: this form is not built yet\n$sX32d0_E.swift:1:5: error: the name 'x' is not in the list of macro 'made'\n",
+    ),
+];
+
+#[test]
+fn replies_that_may_not_stand(rt: HostRuntime) -> Result<(), Fail> {
+    for (content, replies, lines) in &REFUSED {
+        let ran = expand_replying(rt, content, replies)?;
+        expect(&rt, &ran, 1, "", lines);
+        expect_asked(&rt, &ran, replies.len());
+    }
+    Ok(())
+}
+
+#[test]
+fn declaration_without_a_text(rt: HostRuntime) -> Result<(), Fail> {
+    let alloc = rt.alloc();
+    let no_text = "(\0\0\0\0\0\0\0{\"expandMacroResult\":{\"diagnostics\":[]}}";
+    let gives = joined(alloc, &[GREETED, no_text])?;
+    let scripts = one_script(alloc, gives.into_bytes(), &[])?;
+    let ran = run_with_macros(rt, "#d\n", scripts)?;
+    expect(
+        &rt,
+        &ran,
+        1,
+        "",
+        "r.swift:1:1: error: macro 'd' gave no text\n",
+    );
     Ok(())
 }
 

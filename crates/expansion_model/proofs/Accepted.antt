@@ -22,6 +22,8 @@ use Rattle.decl_parser.specs.declared.parse.TheConstants.{LONGEST_SOURCE}
 use Rattle.decl_parser.specs.Faults.{fault}
 use Rattle.decl_parser.specs.Outline.{elements_of, grouped, lexed, read_groups, read_tokens, tokens_of}
 use Rattle.decl_parser.proofs.Accepting.{then_ok, if_ok}
+use Rattle.expansion_model.specs.Buffers.{BufferSeen, IsSound}
+use Rattle.expansion_model.proofs.Shapes.{shaped}
 use Rattle.expansion_model.proofs.MarkBoundaries.{IsPlaced, IsForestPlaced, forest_placed}
 
 lexed_ok : (outcome : Outcome) (tokens : List Token) → lexed outcome ≡ Ok tokens → outcome ≡ Ok tokens
@@ -62,3 +64,9 @@ accepted text forest is =
     let held = groups_hold_the_tokens text tokens forest (subst (IsGrouped text tokens) (grouped_ok (groups_of text tokens) forest read.2) (some_group_outcome text tokens)) in
     let each : AllByRecursion (IsPlaced text) tokens = both_each text tokens (recursion_from_All (IsTile text) tokens (tokens_tile text tokens are.lexed).each) (recursion_from_All (IsOfCharacters text) tokens (tokens_are_of_characters text tokens are.lexed)) in
     record { short = are.short; utf8 = accepted_texts_are_utf8 text tokens are.lexed; placed = forest_placed text forest (subst (AllByRecursion (IsPlaced text)) (sym held.0) each) }
+
+-- a text that has an outline is short enough to be read
+pub sound_is_short : (buffer : BufferSeen) → IsSound buffer → length buffer.outline.text ≤ 4194304
+sound_is_short buffer is =
+    let made = shaped buffer.outline.text buffer.outline.shape buffer.outline (sym is) in
+    (accepted buffer.outline.text made.forest made.elements).short

@@ -1,5 +1,5 @@
 -- The sites of a declaration, by its parts.
-use Rattle.std.proofs.Common.{◌≡◌, ℕ, Option, Some, None, List, [], ◌++◌, not, option_map, append_assoc, append-nil, refl, sym, ap, ap₂, ◌∙◌}
+use Rattle.std.proofs.Common.{Bool, false, ◌≡◌, ℕ, Option, Some, None, List, [], ◌++◌, not, option_map, append_assoc, append-nil, refl, sym, ap, ap₂, ◌∙◌}
 use Rattle.swift_base.specs.declared.plugins.Plugin.{Plugin}
 use Rattle.swift_tree.specs.declared.item.Block.{Block, out-Block}
 use Rattle.swift_tree.specs.declared.item.BlockShape.{BlockShape}
@@ -47,11 +47,11 @@ pub members_is-some : (i : Item) (b : Block) → (out-Item i).block ≡ Some b �
 members_is-some i b some = members_is i ∙ ap (λ o. members_in (block_from (option_map block_of o))) some
 
 module _ (text : List ℕ) (macros : List MacroDecl) (plugins : List Plugin) where
-  item_is : (i : Item) → item_sites text macros plugins (item_of i)
-      ≡ sites_before text macros plugins (carrier i) (members_of (item_of i)) ++ (block_sites text macros plugins (inner_of i) ++ sites_behind text macros plugins (carrier i))
-  item_is i =
-      let P : Carrier → ℕ → List Site = λ c n. sites_before text macros plugins c n ++ (block_sites text macros plugins (inner_of i) ++ sites_behind text macros plugins c) in
-      ap (item_sites text macros plugins) (item_of-is i) ∙ ap₂ P (carrier_is i) (sym (members_is i))
+  item_is : (file_scope : Bool) (i : Item) → item_sites text macros plugins file_scope (item_of i)
+      ≡ sites_before text macros plugins file_scope (carrier i) (members_of (item_of i)) ++ (block_sites text macros plugins (inner_of i) ++ sites_behind text macros plugins (carrier i))
+  item_is file_scope i =
+      let P : Carrier → ℕ → List Site = λ c n. sites_before text macros plugins file_scope c n ++ (block_sites text macros plugins (inner_of i) ++ sites_behind text macros plugins c) in
+      ap (item_sites text macros plugins file_scope) (item_of-is i) ∙ ap₂ P (carrier_is i) (sym (members_is i))
 
   inner_none : (i : Item) → (out-Item i).block ≡ None → block_sites text macros plugins (inner_of i) ≡ []
   inner_none i lacks = ap (λ o. block_sites text macros plugins (block_from (option_map block_of o))) lacks
@@ -60,28 +60,28 @@ module _ (text : List ℕ) (macros : List MacroDecl) (plugins : List Plugin) whe
   inner_some i b some = ap (λ o. block_sites text macros plugins (block_from (option_map block_of o))) some
 
   -- what is put for a declaration, one part behind the other
-  put_by : (before first inner last : List Site) (i : Item) → first ≡ before ++ sites_before text macros plugins (carrier i) (members_of (item_of i))
-      → inner ≡ first ++ block_sites text macros plugins (inner_of i) → last ≡ inner ++ sites_behind text macros plugins (carrier i) → last ≡ before ++ item_sites text macros plugins (item_of i)
-  put_by before first inner last i begins holds ends =
-      let fore = sites_before text macros plugins (carrier i) (members_of (item_of i)) in
+  put_by : (file_scope : Bool) (before first inner last : List Site) (i : Item) → first ≡ before ++ sites_before text macros plugins file_scope (carrier i) (members_of (item_of i))
+      → inner ≡ first ++ block_sites text macros plugins (inner_of i) → last ≡ inner ++ sites_behind text macros plugins (carrier i) → last ≡ before ++ item_sites text macros plugins file_scope (item_of i)
+  put_by file_scope before first inner last i begins holds ends =
+      let fore = sites_before text macros plugins file_scope (carrier i) (members_of (item_of i)) in
       let middle = block_sites text macros plugins (inner_of i) in
       let hind = sites_behind text macros plugins (carrier i) in
       ends ∙ ap (λ (l : List Site). l ++ hind) (holds ∙ ap (λ (l : List Site). l ++ middle) begins)
-      ∙ append_assoc (before ++ fore) middle hind ∙ append_assoc before fore (middle ++ hind) ∙ ap (λ (l : List Site). before ++ l) (sym (item_is i))
+      ∙ append_assoc (before ++ fore) middle hind ∙ append_assoc before fore (middle ++ hind) ∙ ap (λ (l : List Site). before ++ l) (sym (item_is file_scope i))
 
-  pub put-none : (before first last : List Site) (i : Item) → first ≡ before ++ sites_before text macros plugins (carrier i) (members_of (item_of i))
-      → (out-Item i).block ≡ None → last ≡ first ++ sites_behind text macros plugins (carrier i) → last ≡ before ++ item_sites text macros plugins (item_of i)
-  put-none before first last i begins lacks ends =
-      put_by before first (first ++ []) last i begins (ap (λ (l : List Site). first ++ l) (sym (inner_none i lacks))) (ends ∙ ap (λ (l : List Site). l ++ sites_behind text macros plugins (carrier i)) (sym (append-nil first)))
+  pub put-none : (file_scope : Bool) (before first last : List Site) (i : Item) → first ≡ before ++ sites_before text macros plugins file_scope (carrier i) (members_of (item_of i))
+      → (out-Item i).block ≡ None → last ≡ first ++ sites_behind text macros plugins (carrier i) → last ≡ before ++ item_sites text macros plugins file_scope (item_of i)
+  put-none file_scope before first last i begins lacks ends =
+      put_by file_scope before first (first ++ []) last i begins (ap (λ (l : List Site). first ++ l) (sym (inner_none i lacks))) (ends ∙ ap (λ (l : List Site). l ++ sites_behind text macros plugins (carrier i)) (sym (append-nil first)))
 
-  pub put-some : (before first inner last : List Site) (i : Item) (b : Block) → first ≡ before ++ sites_before text macros plugins (carrier i) (members_of (item_of i))
+  pub put-some : (file_scope : Bool) (before first inner last : List Site) (i : Item) (b : Block) → first ≡ before ++ sites_before text macros plugins file_scope (carrier i) (members_of (item_of i))
       → (out-Item i).block ≡ Some b → inner ≡ first ++ block_sites text macros plugins (block_of b)
-      → last ≡ inner ++ sites_behind text macros plugins (carrier i) → last ≡ before ++ item_sites text macros plugins (item_of i)
-  put-some before first inner last i b begins some holds ends =
-      put_by before first inner last i begins (holds ∙ ap (λ (l : List Site). first ++ l) (sym (inner_some i b some))) ends
+      → last ≡ inner ++ sites_behind text macros plugins (carrier i) → last ≡ before ++ item_sites text macros plugins file_scope (item_of i)
+  put-some file_scope before first inner last i b begins some holds ends =
+      put_by file_scope before first inner last i begins (holds ∙ ap (λ (l : List Site). first ++ l) (sym (inner_some i b some))) ends
 
   -- only a block of members has members
-  pub block-members : (b : Block) → (out-Block b).shape ≡ shape.Members → block_sites text macros plugins (block_of b) ≡ items_sites text macros plugins (items_of (out-Block b).members.items)
+  pub block-members : (b : Block) → (out-Block b).shape ≡ shape.Members → block_sites text macros plugins (block_of b) ≡ items_sites text macros plugins false (items_of (out-Block b).members.items)
   block-members b is =
       ap (block_sites text macros plugins) (block_of-is b) ∙ ap (λ s. block_sites text macros plugins (block (out-Block b).span s (items_of (out-Block b).members.items))) is
 

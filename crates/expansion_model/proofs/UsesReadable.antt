@@ -60,7 +60,7 @@ ItemReadable text seen = AreHeadsReadable text (heads_from seen)
 abbrev pub ItemsReadable : List ℕ → List ItemSeen → Type 0
 ItemsReadable text items = AreHeadsReadable text (heads (items_from items))
 
-abbrev MembersReadable : List ℕ → MembersRead → Type 0
+abbrev pub MembersReadable : List ℕ → MembersRead → Type 0
 MembersReadable text read = OkHolds (ItemsReadable text) read
 
 -- a use begins with a `#` word
@@ -237,3 +237,8 @@ module _ (text : List ℕ) (utf8 : IsUtf8 text) where
   unfolding items_of_list
   list_readable of_place forest placed =
       items_readable text utf8 of_place (level text forest) (insides text forest) (members text forest) (level_bounded text utf8 forest placed) (insides_readable text utf8 forest placed) (all_members_readable forest placed)
+
+-- an expression's own uses
+pub uses_readable : (text : List ℕ) → IsUtf8 text → (forest : Forest) → IsForestPlaced text forest → AreReadable text (found_in (level text forest) (insides text forest)).uses
+uses_readable text utf8 forest placed =
+    (found_in_readable text utf8 (level text forest) (insides text forest) (level_bounded text utf8 forest placed) (insides_readable text utf8 forest placed)).1

@@ -15,7 +15,7 @@ use Rattle.unique_names.specs.declared.role.Role.TheVariants as role
 use Rattle.macro_decls.specs.declared.table.MacroDecl.{MacroDecl}
 use Rattle.macro_decls.specs.declared.table.RoleDecl.{RoleDecl}
 use Rattle.expansion_model.specs.Macros.{macro_of, has_plugin, fits, role_eq}
-use Rattle.expansion_model.specs.Uses.{fault_at, use_site}
+use Rattle.expansion_model.specs.Uses.{fault_at, of_expression, use_site}
 use Rattle.expansion_model.specs.declared.site.Site.{Site}
 use Rattle.expansion_model.specs.declared.site.Site.TheVariants as site
 use Rattle.expansion_model.specs.declared.site.SiteKind.{SiteKind}
@@ -89,7 +89,7 @@ macro_site attribute declared None = site.Attribute attribute.span
 macro_site attribute declared (Some kind) = fault_at attribute.span.start kind (named_by kind declared)
 
 abbrev pub attribute_by : List ℕ → List MacroDecl → List Plugin → Carrier → Attr → Option MacroDecl → List Site
-attribute_by text macros plugins carrier attribute None = map (use_site text macros plugins role.Expression) attribute.uses
+attribute_by text macros plugins carrier attribute None = map (use_site text macros plugins of_expression) attribute.uses
 attribute_by text macros plugins carrier attribute (Some declared) =
     macro_site attribute declared (attribute_fault plugins carrier declared) ∷ []
 

@@ -2,6 +2,16 @@ pub mod Macros
 pub mod Attributes
 pub mod Uses
 pub mod Sites
+pub mod Buffers
+pub mod BufferSites
 pub mod Spans
 pub mod Requests
 pub mod Readable
+pub mod Messages
+pub mod Table
+pub mod Visit
+pub mod Visited
+pub mod Answer
+pub mod Steps
+pub mod Reached
+pub mod Laws

@@ -1,9 +1,11 @@
 -- The texts that a plug-in is given: this project's own words.
-use Rattle.std.specs.Prelude.{ℕ, List, Ok}
+use Rattle.std.specs.Prelude.{ℕ, List, All}
 use Rattle.std.specs.Str.{IsUtf8}
-use Rattle.swift_tree.specs.declared.outline.Shape.TheVariants.{File}
-use Rattle.swift_tree.specs.Outlines.{OutlineSeen}
-use Rattle.decl_parser.specs.Outline.{IsOutline}
+use Rattle.swift_base.specs.declared.plugins.Plugin.{Plugin}
+use Rattle.macro_decls.specs.declared.table.MacroDecl.{MacroDecl}
+use Rattle.macro_decls.specs.Macros.{IsDeclReadable}
+use Rattle.expansion_model.specs.Buffers.{BufferSeen, IsSound}
+use Rattle.expansion_model.specs.BufferSites.{buffer_sites}
 use Rattle.expansion_model.specs.Macros.{text_at}
 use Rattle.expansion_model.specs.declared.site.Ask.{Ask}
 use Rattle.expansion_model.specs.declared.site.Site.{Site}
@@ -22,6 +24,7 @@ IsSiteReadable text (site.Fault fault) = Unit {0}
 IsSiteReadable text (site.NotBuilt at) = Unit {0}
 IsSiteReadable text (site.Attribute span) = Unit {0}
 
--- an accepted source file
-abbrev pub IsSource : OutlineSeen → Type 0
-IsSource source = IsOutline source.text File (Ok source)
+-- the texts of what is asked in a buffer are UTF-8, where its outline is that of its text
+abbrev pub AsksAreReadable : Type 0
+AsksAreReadable = (macros : List MacroDecl) (plugins : List Plugin) (buffer : BufferSeen) → IsSound buffer → All IsDeclReadable macros
+    → All (IsSiteReadable buffer.outline.text) (buffer_sites macros plugins buffer)

@@ -3,15 +3,12 @@ use Rattle.std.specs.Prelude.{ℕ, List, [], ◌∷◌, length, All}
 use Rattle.std.specs.List.{flat_map}
 use Rattle.swift_base.specs.declared.place.Span.{Span}
 use Rattle.swift_base.specs.declared.plugins.Plugin.{Plugin}
-use Rattle.swift_tree.specs.declared.outline.Shape.{Shape}
-use Rattle.swift_tree.specs.Outlines.{OutlineSeen}
 use Rattle.decl_parser.specs.Nesting.{Between, Apart}
-use Rattle.decl_parser.specs.Outline.{IsOutline}
 use Rattle.macro_decls.specs.declared.table.MacroDecl.{MacroDecl}
-use Rattle.expansion_model.specs.Sites.{sites_of}
+use Rattle.expansion_model.specs.Buffers.{BufferSeen, IsSound}
+use Rattle.expansion_model.specs.BufferSites.{buffer_sites}
 use Rattle.expansion_model.specs.declared.site.Site.{Site}
 use Rattle.expansion_model.specs.declared.site.Site.TheVariants as site
-use Rattle.std.specs.Prelude.{Ok}
 
 -- what is replaced at a site: the use that is asked, or the attribute
 abbrev pub span_of : Site → List Span
@@ -33,6 +30,7 @@ pub record LieApart (from to : ℕ) (spans : List Span) : Type 0 where
   pub each : All (Between from to) spans
   pub apart : AreApart spans
 
--- what is replaced of an accepted source lies in it, and apart
+-- what is replaced in a buffer lies in its text, and apart, where its outline is that of the text
 abbrev pub SitesLieApart : Type 0
-SitesLieApart = (text : List ℕ) (shape : Shape) (source : OutlineSeen) (macros : List MacroDecl) (plugins : List Plugin) → IsOutline text shape (Ok source) → LieApart 0 (length text) (spans_of (sites_of source macros plugins))
+SitesLieApart = (macros : List MacroDecl) (plugins : List Plugin) (buffer : BufferSeen) → IsSound buffer
+    → LieApart 0 (length buffer.outline.text) (spans_of (buffer_sites macros plugins buffer))

@@ -1,16 +1,15 @@
 // What stands at the attributes of a declaration.
 ghost use Rattle.std.specs.Prelude.{◌≡◌, ◌++◌, ◌∷◌, [], map, replicate, option_copied, IfOk};
 ghost use Rattle.std.specs.List.{flat_map, list_any};
-ghost use Rattle.unique_names.specs.declared.role.Role.TheVariants as role;
 ghost use Rattle.expansion_model.specs.Macros.{fits};
-ghost use Rattle.expansion_model.specs.Uses.{use_site};
+ghost use Rattle.expansion_model.specs.Uses.{of_expression, use_site};
 ghost use Rattle.expansion_model.specs.declared.site.Site.TheVariants as Site;
 ghost use Rattle.expansion_model.specs.Attributes.{carrier, has_one_name, has_body, variable_fault, place_fault, plugin_fault, fitting_fault, role_fault, first_fault, attribute_fault, named_by, macro_site, attribute_by, attribute_sites, is_none, asks_macro, asks_role, role_requests, role_sites};
 
 use crate::macros::{fits, has_plugin, has_role, macro_of};
 use crate::site::{Site, SiteKind};
 use crate::slices::add;
-use crate::uses::{fault_at, use_site};
+use crate::uses::{OF_EXPRESSION, fault_at, use_site};
 use macro_decls::{MacroDecl, MacroTable, RoleDecl};
 use std::alloc::{AllocError, Global};
 use swift_base::Plugin;
@@ -156,10 +155,10 @@ fn put_argument_uses(
     sites: &mut Vec<Site>,
 ) -> Result<(), AllocError>
     ensures { IfOk result (λ _. sites.new.items
-        ≡ sites.old.items ++ map (use_site text.now macros.now plugins.now role.Expression) uses.now) }
+        ≡ sites.old.items ++ map (use_site text.now macros.now plugins.now of_expression) uses.now) }
 {
     'uses: for macro_use in uses {
-        let site = use_site(alloc, text, macros, plugins, Role::Expression, *macro_use)?;
+        let site = use_site(alloc, text, macros, plugins, OF_EXPRESSION, *macro_use)?;
         add(sites, site)?;
     }
     Ok(())

@@ -4,28 +4,17 @@ ghost use Rattle.std.specs.Str.{IsUtf8};
 ghost use Rattle.std.specs.Str.Lossy.{utf8_lossy};
 ghost use Rattle.plugin_messages.specs.Writable.{IsLocationWritable, IsMacroWritable, IsSyntaxWritable, IsRequestWritable};
 ghost use Rattle.expansion_model.specs.Readable.{IsAskReadable};
-ghost use Rattle.expansion_model.specs.Requests.{place_of, IsPlaceIn, key_of, last_part, file_id, location_of, syntax_of, request_of};
+ghost use Rattle.expansion_model.specs.Buffers.{buffer_seen};
+ghost use Rattle.expansion_model.specs.Requests.{place_of, last_part, file_id, location_of, kind_for, syntax_of, request_of};
 
+use crate::buffer::{Buffer, key_of};
 use crate::place::Place;
 use crate::site::Ask;
 use crate::slices::text_at;
 use plugin_messages::{Location, MacroRef, Parts, Request, Syntax, SyntaxKind};
 use std::alloc::{AllocError, Global};
 use swift_base::Text;
-use unique_names::{Key, KeyStep, Role};
-
-/// The key of a use's request.
-pub fn key_of(alloc: Global, ask: &Ask) -> Result<Key, AllocError>
-    ensures { IfOk result (λ key. key ≡ key_of ask.now) }
-{
-    let mut steps = Vec::new(alloc);
-    steps.push(KeyStep {
-        offset: ask.macro_use.span.start,
-        role: Role::Expression,
-        member: 0,
-    })?;
-    Ok(Key { steps })
-}
+use unique_names::Role;
 
 // What stands after the last slash.
 fn last_part(name: &[u8]) -> &[u8]
@@ -89,49 +78,57 @@ fn copied(alloc: Global, target: &MacroRef) -> Result<MacroRef, AllocError>
     })
 }
 
+fn kind_for(role: Role) -> SyntaxKind
+    ensures { result ≡ kind_for role }
+{
+    match role {
+        Role::Declaration => SyntaxKind::Declaration,
+        _ => SyntaxKind::Expression,
+    }
+}
+
 #[tactic(auto, unfolding(crate::specs::Requests::syntax_of))]
 fn syntax_of(
     alloc: Global,
-    name: &[u8],
-    text: &[u8],
+    buffer: &Buffer,
     place: Place,
     ask: &Ask,
 ) -> Result<Syntax, AllocError>
-    requires place { place ≡ place_of text.now ask.now.macro_use.span.start }
-    requires readable { IsAskReadable text.now ask.now }
-    ensures syntax { IfOk result (λ syntax. syntax ≡ syntax_of name.now text.now ask.now) }
+    requires place { place ≡ place_of buffer.now.outline.text ask.now.macro_use.span.start }
+    requires readable { IsAskReadable buffer.now.outline.text ask.now }
+    ensures syntax { IfOk result (λ syntax. syntax ≡ syntax_of (buffer_seen buffer.now) ask.now) }
     ensures writable { IfOk result IsSyntaxWritable }
 {
+    let text = buffer.outline.text.bytes();
     let source = Text::from_bytes(alloc, text_at(text, ask.macro_use.span))?;
-    let location = location_of(alloc, name, place)?;
+    let location = location_of(alloc, buffer.name.bytes(), place)?;
     Ok(Syntax {
-        kind: SyntaxKind::Expression,
+        kind: kind_for(ask.stands_for.role),
         source,
         location: Some(location),
     })
 }
 
-/// What is asked for a use in the buffer of this name and text; `place` is that of its `#`.
+/// What is asked for a use in a buffer; `place` is that of its `#`.
 #[tactic(auto, unfolding(crate::specs::Requests::request_of))]
 pub fn request_of(
     alloc: Global,
-    name: &[u8],
-    text: &[u8],
+    buffer: &Buffer,
     place: Place,
     ask: &Ask,
 ) -> Result<Request, AllocError>
-    requires place { place ≡ place_of text.now ask.now.macro_use.span.start }
-    requires readable { IsAskReadable text.now ask.now }
-    ensures request { IfOk result (λ request. request ≡ request_of name.now text.now ask.now) }
+    requires place { place ≡ place_of buffer.now.outline.text ask.now.macro_use.span.start }
+    requires readable { IsAskReadable buffer.now.outline.text ask.now }
+    ensures request { IfOk result (λ request. request ≡ request_of (buffer_seen buffer.now) ask.now) }
     ensures writable { IfOk result IsRequestWritable }
 {
-    let key = key_of(alloc, ask)?;
+    let key = key_of(&buffer.key, ask)?;
     let target = copied(alloc, &ask.target)?;
-    let syntax = syntax_of(alloc, name, text, place, ask)?;
+    let syntax = syntax_of(alloc, buffer, place, ask)?;
     Ok(Request {
         key,
         target,
-        role: Role::Expression,
+        role: ask.stands_for.role,
         parts: Parts::Freestanding { syntax },
     })
 }

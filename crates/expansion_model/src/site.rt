@@ -3,12 +3,22 @@
 use plugin_messages::MacroRef;
 use swift_base::{Span, Text};
 use swift_tree::MacroUse;
+use unique_names::Role;
+
+/// What a use stands for: the role in which its macro is wanted, and whether that is at file scope, which only
+/// declarations are.
+#[derive(Clone, Copy, PartialEq, Eq, Debug)]
+pub struct UseKind {
+    pub role: Role,
+    pub file_scope: bool,
+}
 
 /// A use that its macro's plug-in is asked for.
 #[derive(Debug, PartialEq, Drop)]
 pub struct Ask {
     pub macro_use: MacroUse,
     pub target: MacroRef,
+    pub stands_for: UseKind,
 }
 
 /// Why nothing is asked at a use or at an attribute.
@@ -26,6 +36,8 @@ pub enum SiteKind {
     AccessorOnBody,
     /// No command is there for the macro's module.
     NoPlugin,
+    /// The use stands in the reply to a request for the same macro in the same role, or in a reply within that.
+    Recursive,
 }
 
 /// A fault at the byte offset of a `#` or `@`; `name` is the macro's, for `NoPlugin` the module's.

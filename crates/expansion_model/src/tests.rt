@@ -1,14 +1,23 @@
-// Worked examples: the fault of each site, what is text alone, and orders of visits.
+// Worked examples: the fault of each site, what is text alone, orders of visits, and steps of an expansion.
+ghost use Rattle.std.specs.Prelude.{Ok, IfOk};
+ghost use Rattle.std.specs.List.{All};
+ghost use Rattle.swift_tree.specs.Outlines.{outline_of};
+ghost use Rattle.decl_parser.specs.Outline.{IsOutline};
+ghost use Rattle.macro_decls.specs.Macros.{IsDeclReadable};
+ghost use Rattle.expansion_model.specs.Buffers.{IsSound, buffer_seen};
 
 use super::*;
-use decl_parser::{parse_file, parse_items};
+use decl_parser::{outline_keeps_the_text, parse_file, parse_items};
 use macro_decls::MacroTable;
+use plugin_messages::{Outcome, Parts, Request};
 use role_names::declared_names;
 use std::alloc::Global;
 use std::fmt::Write;
 use std::process::Abort;
 use std::test::Fail;
-use swift_base::{Plugin, Plugins, Span, Text};
+use swift_base::{Listed, Plugin, Plugins, Span, Text};
+use swift_tree::Outline;
+use unique_names::{Key, KeyStep, Role};
 
 /// The macros of the examples. Module `N` has no plug-in.
 const MACROS: &str = "\
@@ -26,9 +35,12 @@ const MACROS: &str = "\
 @attached(extension) @attached(peer) @attached(member) @attached(memberAttribute) macro Many() = #externalMacro(module: \"M\", type: \"Many\")
 ";
 
-fn macros(alloc: Global) -> Result<MacroTable, Fail> {
+fn macros(alloc: Global) -> Result<MacroTable, Fail>
+    ensures { IfOk result (λ table. All IsDeclReadable table) }
+{
     let outline = parse_file(alloc, MACROS.as_bytes())?;
-    Ok(MacroTable::from_outlines(alloc, &[&outline])?)
+    let table = MacroTable::from_outlines(alloc, &[&outline])?;
+    Ok(table)
 }
 
 fn plugins(alloc: Global) -> Result<Plugins, Fail> {
@@ -38,6 +50,23 @@ fn plugins(alloc: Global) -> Result<Plugins, Fail> {
         command: Text::from_bytes(alloc, b"plug")?,
     })?;
     Ok(Plugins::new(list))
+}
+
+fn accepted(alloc: Global, text: &str) -> Result<Outline, Fail>
+    ensures { IfOk result (λ outline. IsOutline outline.text outline.shape (Ok (outline_of outline))) }
+{
+    outline_keeps_the_text();
+    let outline = parse_file(alloc, text.as_bytes())?;
+    Ok(outline)
+}
+
+/// The source r.swift with this text.
+fn source(alloc: Global, text: &str) -> Result<Buffer, Fail>
+    ensures { IfOk result (λ buffer. IsSound (buffer_seen buffer)) }
+{
+    let outline = accepted(alloc, text)?;
+    let buffer = Buffer::source(alloc, b"r.swift", outline)?;
+    Ok(buffer)
 }
 
 fn str_of(text: &Text) -> &str {
@@ -71,9 +100,9 @@ fn put_site(alloc: Global, line: &mut String, site: &Site) -> Result<(), Fail> {
 
 /// The sites of a text, one behind the other.
 fn sites_in(alloc: Global, text: &str) -> Result<String, Fail> {
-    let source = parse_file(alloc, text.as_bytes())?;
+    let source = source(alloc, text)?;
     let mut line = String::new(alloc);
-    for site in &sites(alloc, &source, &macros(alloc)?, &plugins(alloc)?)? {
+    for site in &buffer_sites(alloc, &macros(alloc)?, plugins(alloc)?.list(), &source)? {
         put_site(alloc, &mut line, site)?;
     }
     Ok(line)
@@ -148,7 +177,7 @@ fn use_in_arguments_is_text(rt: HostRuntime) -> Result<(), Fail> {
 }
 
 const VISITS: [(&str, &str); 10] = [
-    ("#made()", " 0 request;"),
+    ("#made()", " 0 asks made=M.Made;"),
     (
         "@Peered @other(#outer(1)) var x = #inner(1)",
         " 0-7; 15 asks outer=M.Outer; 34 asks inner=M.Inner; 0 request;",
@@ -167,7 +196,7 @@ const VISITS: [(&str, &str); 10] = [
     ),
     (
         "@Many struct S { #made() \n var a = #inner(1); func f() { var b = 1 } }",
-        " 0-5; 0 request; 0 request; 17 request; 35 asks inner=M.Inner; 0 request; 0 request; 0 request;",
+        " 0-5; 0 request; 0 request; 17 asks made=M.Made; 35 asks inner=M.Inner; 0 request; 0 request; 0 request;",
     ),
     (
         "@Extended @Peered @Membered @Given struct S { var a = #inner(1) }",
@@ -204,5 +233,66 @@ fn names_of_a_case(rt: HostRuntime) -> Result<(), Fail> {
     let names = declared_names(alloc, &outline.items[0])?;
     let wanted = [Span { start: 5, end: 6 }, Span { start: 8, end: 9 }];
     assert_eq!(rt; names.as_slice(), wanted.as_slice());
+    Ok(())
+}
+
+/// What is asked: the steps of its key, and the text of its use.
+fn asked(alloc: Global, request: &Request) -> Result<String, Fail> {
+    let mut line = String::new(alloc);
+    for step in &request.key.steps {
+        write!(line, "{:?} at {} ", step.role, step.offset)?;
+    }
+    if let Parts::Freestanding { syntax } = &request.parts {
+        line.push_str(str_of(&syntax.source))?;
+    }
+    Ok(line)
+}
+
+fn reply(alloc: Global, text: &str) -> Result<Outcome, Fail> {
+    Ok(Outcome::Reply {
+        text: Some(Text::from_bytes(alloc, text.as_bytes())?),
+        diagnostics: Listed::from_vec(Vec::new(alloc)),
+    })
+}
+
+/// What is to be asked first, or the expanded file.
+fn step_in(alloc: Global, text: &str, table: &Table) -> Result<String, Fail> {
+    let source = source(alloc, text)?;
+    let step = expand_with(alloc, &source, &macros(alloc)?, &plugins(alloc)?, table)?;
+    match step {
+        Step::Missing(first, _) => asked(alloc, &first),
+        Step::Done(Answer::File(bytes)) => Ok(String::from_str(alloc, str_of(&bytes))?),
+        Step::Done(_) => Ok(String::from_str(alloc, "no file")?),
+    }
+}
+
+/// The key of a use of an expression macro in the source.
+fn key_at(alloc: Global, offset: u32) -> Result<Key, Fail> {
+    let mut key = Key::source(alloc);
+    key.steps.push(KeyStep {
+        offset,
+        role: Role::Expression,
+        member: 0,
+    })?;
+    Ok(key)
+}
+
+#[test]
+fn sites_and_first_missing(rt: HostRuntime) -> Result<(), Fail> {
+    let alloc = rt.alloc();
+    let text = "let v = #outer(#inner(1))\n";
+    assert_eq!(rt; sites_in(alloc, text)?.as_str(), " 8 asks outer=M.Outer;");
+    let mut table = Table::new(alloc);
+    let first = step_in(alloc, text, &table)?;
+    assert_eq!(rt; first.as_str(), "Expression at 8 #outer(#inner(1))");
+    table.put(key_at(alloc, 8)?, reply(alloc, "1")?)?;
+    assert_eq!(rt; step_in(alloc, text, &table)?.as_str(), "let v = (1)\n");
+    // the use in another reply is asked with a key of two steps
+    table.put(key_at(alloc, 8)?, reply(alloc, "a + #inner(2)")?)?;
+    let second = step_in(alloc, text, &table)?;
+    assert_eq!(rt;
+        second.as_str(),
+        "Expression at 8 Expression at 4 #inner(2)"
+    );
     Ok(())
 }

@@ -3,7 +3,7 @@ ghost use Rattle.std.specs.Prelude.{◌≡◌, IfOk};
 ghost use Rattle.expansion_model.specs.Uses.{fault_at, target_of, request_at, served_use, use_site};
 
 use crate::macros::{has_plugin, has_role};
-use crate::site::{Ask, Site, SiteFault, SiteKind};
+use crate::site::{Ask, Site, SiteFault, SiteKind, UseKind};
 use crate::slices::text_at;
 use macro_decls::{MacroDecl, MacroTable};
 use plugin_messages::MacroRef;
@@ -40,26 +40,25 @@ fn target_of(
 fn request_at(
     alloc: Global,
     text: &[u8],
-    wanted: Role,
+    wanted: UseKind,
     macro_use: MacroUse,
     declared: &MacroDecl,
 ) -> Result<Site, AllocError>
     ensures { IfOk result (λ site. site ≡ request_at text.now wanted macro_use declared.now) }
 {
-    match wanted {
-        Role::Expression => {
-            let target = target_of(alloc, text, macro_use, declared)?;
-            Ok(Site::Asks(Ask { macro_use, target }))
-        }
-        _ => Ok(Site::NotBuilt(macro_use.span.start)),
-    }
+    let target = target_of(alloc, text, macro_use, declared)?;
+    Ok(Site::Asks(Ask {
+        macro_use,
+        target,
+        stands_for: wanted,
+    }))
 }
 
 fn served_use(
     alloc: Global,
     text: &[u8],
     plugins: &[Plugin],
-    wanted: Role,
+    wanted: UseKind,
     macro_use: MacroUse,
     declared: &MacroDecl,
 ) -> Result<Site, AllocError>
@@ -72,14 +71,20 @@ fn served_use(
     request_at(alloc, text, wanted, macro_use, declared)
 }
 
-/// What stands at a use, where a macro of the role is wanted.
+/// A use that stands for an expression.
+pub const OF_EXPRESSION: UseKind = UseKind {
+    role: Role::Expression,
+    file_scope: false,
+};
+
+/// What stands at a use, where a macro for this is wanted.
 #[tactic(auto, unfolding(crate::specs::Uses::use_site))]
 pub fn use_site(
     alloc: Global,
     text: &[u8],
     macros: &MacroTable,
     plugins: &[Plugin],
-    wanted: Role,
+    wanted: UseKind,
     macro_use: MacroUse,
 ) -> Result<Site, AllocError>
     ensures { IfOk result (λ site. site ≡ use_site text.now macros.now plugins.now wanted macro_use) }
@@ -88,7 +93,7 @@ pub fn use_site(
     let Some(declared) = macros.find(name) else {
         return fault_at(alloc, at, SiteKind::UnknownMacro, name);
     };
-    if !has_role(wanted, declared) {
+    if !has_role(wanted.role, declared) {
         return fault_at(alloc, at, SiteKind::WrongRole, name);
     }
     served_use(alloc, text, plugins, wanted, macro_use, declared)

@@ -1,20 +1,18 @@
 // The sites of a source, in the order of their visits.
 ghost use Rattle.std.specs.Prelude.{◌≡◌, ◌++◌, ◌≤◌, IfOk};
-ghost use Rattle.std.specs.List.{All, flat_map};
+ghost use Rattle.std.specs.List.{flat_map};
 ghost use Rattle.swift_tree.specs.Outlines.{block_of, item_of, items_of, outline_of};
-ghost use Rattle.macro_decls.specs.Macros.{IsDeclReadable};
 ghost use Rattle.expansion_model.specs.Attributes.{carrier};
-ghost use Rattle.expansion_model.specs.Readable.{IsSiteReadable, IsSource};
-ghost use Rattle.expansion_model.specs.Sites.{is_use, role_at, local_sites, before_use, own_sites, one_if, is_member, count_members, members_in, sites_before, sites_behind, item_sites, block_sites, items_sites, sites_of, members_of};
+ghost use Rattle.expansion_model.specs.Sites.{is_use, use_at, local_sites, before_use, own_sites, one_if, is_member, count_members, members_in, sites_before, sites_behind, item_sites, block_sites, items_sites, sites_of, members_of};
 
 use crate::attributes::{put_attributes, put_role};
 use crate::macros::macro_of;
-use crate::site::{Site, SiteKind};
+use crate::site::{Site, SiteKind, UseKind};
 use crate::slices::{add, behind, front, text_at};
-use crate::uses::{fault_at, use_site};
+use crate::uses::{OF_EXPRESSION, fault_at, use_site};
 use macro_decls::MacroTable;
 use std::alloc::{AllocError, Global};
-use swift_base::{Plugin, Plugins};
+use swift_base::Plugin;
 use swift_tree::{Attr, Block, BlockShape, Item, Kind, MacroUse, Outline};
 use unique_names::Role;
 
@@ -24,12 +22,15 @@ fn is_use(kind: Kind) -> bool
     matches!(kind, Kind::UseItem)
 }
 
-fn role_at(kind: Kind) -> Role
-    ensures { result ≡ role_at kind }
+fn use_at(file_scope: bool, kind: Kind) -> UseKind
+    ensures { result ≡ use_at file_scope kind }
 {
     match kind {
-        Kind::UseItem => Role::Declaration,
-        _ => Role::Expression,
+        Kind::UseItem => UseKind {
+            role: Role::Declaration,
+            file_scope,
+        },
+        _ => OF_EXPRESSION,
     }
 }
 
@@ -85,7 +86,7 @@ fn put_own(
     text: &[u8],
     macros: &MacroTable,
     plugins: &[Plugin],
-    wanted: Role,
+    wanted: UseKind,
     uses: &[MacroUse],
     locals: &[Attr],
     sites: &mut Vec<Site>,
@@ -149,11 +150,12 @@ fn put_before(
     text: &[u8],
     macros: &MacroTable,
     plugins: &[Plugin],
+    file_scope: bool,
     item: &Item,
     sites: &mut Vec<Site>,
 ) -> Result<(), AllocError>
     ensures { IfOk result (λ _. sites.new.items
-        ≡ sites.old.items ++ sites_before text.now macros.now plugins.now (carrier item.now) (members_of (item_of item.now))) }
+        ≡ sites.old.items ++ sites_before text.now macros.now plugins.now file_scope (carrier item.now) (members_of (item_of item.now))) }
 {
     let members = members_of(item);
     put_attributes(alloc, text, macros, plugins, item, sites)?;
@@ -173,7 +175,7 @@ fn put_before(
         text,
         macros,
         plugins,
-        role_at(item.kind),
+        use_at(file_scope, item.kind),
         uses,
         locals,
         sites,
@@ -203,13 +205,14 @@ fn put_item(
     text: &[u8],
     macros: &MacroTable,
     plugins: &[Plugin],
+    file_scope: bool,
     item: &Item,
     sites: &mut Vec<Site>,
 ) -> Result<(), AllocError>
     ensures { IfOk result (λ _. sites.new.items
-        ≡ sites.old.items ++ item_sites text.now macros.now plugins.now (item_of item.now)) }
+        ≡ sites.old.items ++ item_sites text.now macros.now plugins.now file_scope (item_of item.now)) }
 {
-    put_before(alloc, text, macros, plugins, item, sites)?;
+    put_before(alloc, text, macros, plugins, file_scope, item, sites)?;
     match &item.block {
         Some(block) => {
             put_block(alloc, text, macros, plugins, block, sites)?;
@@ -238,7 +241,7 @@ fn put_block(
 {
     match block.shape {
         BlockShape::Members => {
-            put_items(alloc, text, macros, plugins, &block.members, sites)?;
+            put_items(alloc, text, macros, plugins, false, &block.members, sites)?;
             Ok(())
         }
         BlockShape::Body | BlockShape::Accessors => Ok(()),
@@ -251,51 +254,35 @@ fn put_items(
     text: &[u8],
     macros: &MacroTable,
     plugins: &[Plugin],
+    file_scope: bool,
     items: &[Item],
     sites: &mut Vec<Site>,
 ) -> Result<(), AllocError>
     ensures { IfOk result (λ _. sites.new.items
-        ≡ sites.old.items ++ items_sites text.now macros.now plugins.now (items_of items.now)) }
+        ≡ sites.old.items ++ items_sites text.now macros.now plugins.now file_scope (items_of items.now)) }
 {
     'items: for item in items {
-        put_item(alloc, text, macros, plugins, item, sites)?;
+        put_item(alloc, text, macros, plugins, file_scope, item, sites)?;
     }
     Ok(())
 }
 
+/// The sites of an outline in the order of their visits, at file scope or in a block.
 #[tactic(auto, unfolding(crate::specs::Sites::sites_of))]
-fn visited(
+pub fn sites_of(
     alloc: Global,
-    source: &Outline,
     macros: &MacroTable,
-    plugins: &Plugins,
+    plugins: &[Plugin],
+    file_scope: bool,
+    outline: &Outline,
 ) -> Result<Vec<Site>, AllocError>
-    ensures { IfOk result (λ sites. sites.items ≡ sites_of (outline_of source.now) macros.now plugins.now) }
+    ensures { IfOk result (λ sites. sites.items ≡ sites_of macros.now plugins.now file_scope (outline_of outline.now)) }
 {
     let mut sites = Vec::new(alloc);
-    let text = source.text.bytes();
-    put_items(
-        alloc,
-        text,
-        macros,
-        plugins.list(),
-        &source.items,
-        &mut sites,
-    )?;
+    let text = outline.text.bytes();
+    let items = &outline.items;
+    put_items(alloc, text, macros, plugins, file_scope, items, &mut sites)?;
+    let (uses, locals) = (outline.uses.items(), outline.locals.items());
+    put_own(alloc, text, macros, plugins, OF_EXPRESSION, uses, locals, &mut sites)?;
     Ok(sites)
-}
-
-/// The sites of a source in the order of their visits; the texts of what is asked there are UTF-8, where the source is
-/// an accepted file and the module and the type of each macro are.
-pub fn sites(
-    alloc: Global,
-    source: &Outline,
-    macros: &MacroTable,
-    plugins: &Plugins,
-) -> Result<Vec<Site>, AllocError>
-    ensures sites { IfOk result (λ sites. sites.items ≡ sites_of (outline_of source.now) macros.now plugins.now) }
-    ensures readable { IsSource (outline_of source.now) → All IsDeclReadable macros.now
-        → IfOk result (λ sites. All (IsSiteReadable source.now.text) sites.items) }
-{
-    visited(alloc, source, macros, plugins)
 }

@@ -4,3 +4,4 @@ pub mod Turns
 pub mod Runs
 pub mod Replied
 pub mod Tables
+pub mod Wanted

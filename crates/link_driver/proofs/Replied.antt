@@ -8,19 +8,20 @@ use Rattle.plugin_messages.specs.PluginOf.{plugin_message_of}
 use Rattle.plugin_messages.specs.declared.message.Outcome.{Outcome}
 use Rattle.link_driver.specs.declared.link.Stop.{Stop}
 use Rattle.link_driver.specs.LinkTable.{reply_outcome, is_reply, is_result, is_capability, is_length, greets_badly, is_next, replied, outcome_at, each_below}
-use Rattle.link_driver.specs.Driven.{Each, HasGreeted, AreReplies}
+use Rattle.link_driver.specs.Driven.{HasGreeted, AreReplies}
+use Rattle.link_driver.specs.Lists.{Each}
 use Rattle.link_driver.specs.Laws.{OnlyLastKeysFail}
 
 below_count : {A : Type 0} (f : ℕ → A) (count : ℕ) → length (each_below f count) ≡ count
 below_count f zero = refl
 below_count f (suc n) = omega (arith, length-append (each_below f n) (f n ∷ []), below_count f n)
 
-get_front : {A : Type 0} (xs ys : List A) (i : ℕ) → i < length xs → slice_get (xs ++ ys) i ≡ slice_get xs i
+pub get_front : {A : Type 0} (xs ys : List A) (i : ℕ) → i < length xs → slice_get (xs ++ ys) i ≡ slice_get xs i
 get_front [] ys i less = absurd (omega arith)
 get_front (x ∷ xs) ys zero less = refl
 get_front (x ∷ xs) ys (suc i) less = get_front xs ys i (omega (arith, less))
 
-get_last : {A : Type 0} (xs : List A) (x : A) (i : ℕ) → i ≡ length xs → slice_get (xs ++ x ∷ []) i ≡ Some x
+pub get_last : {A : Type 0} (xs : List A) (x : A) (i : ℕ) → i ≡ length xs → slice_get (xs ++ x ∷ []) i ≡ Some x
 get_last [] x zero is = refl
 get_last [] x (suc i) is = absurd (omega (arith, is))
 get_last (y ∷ ys) x zero is = absurd (omega (arith, is))
@@ -42,11 +43,11 @@ below_at f (suc n) number less = elim (below_or_last n number less) [
   | inr last ↦ get_last (each_below f n) (f n) number (last ∙ sym (below_count f n)) ∙ ap (λ (k : ℕ). Some (f k)) (sym last)
 ]
 
-and_no : (b : Bool) → (b && false) ≡ false
+pub and_no : (b : Bool) → (b && false) ≡ false
 and_no true = refl
 and_no false = refl
 
-neither : {A : Type 0} (p q : Bool) (x y z : A) → p ≡ false → q ≡ false → (if p then x else if q then y else z) ≡ z
+pub neither : {A : Type 0} (p q : Bool) (x y z : A) → p ≡ false → q ≡ false → (if p then x else if q then y else z) ≡ z
 neither true q x y z is other = absurd (cc)
 neither false true x y z is other = absurd (cc)
 neither false false x y z is other = refl
@@ -58,7 +59,7 @@ reply_at [] number less each = absurd (omega arith)
 reply_at (reply ∷ more) zero less each = (reply, refl, each.0)
 reply_at (reply ∷ more) (suc n) less each = reply_at more n (omega (arith, less)) each.1
 
-greeting_stands : (greeting : List ℕ) (payloads replies : List (List ℕ)) → payloads ≡ greeting ∷ replies → is_capability (plugin_message_of greeting) ≡ true
+pub greeting_stands : (greeting : List ℕ) (payloads replies : List (List ℕ)) → payloads ≡ greeting ∷ replies → is_capability (plugin_message_of greeting) ≡ true
     → greets_badly payloads ≡ false
 greeting_stands greeting payloads replies is greets = ap greets_badly is ∙ ap not greets
 
@@ -78,11 +79,11 @@ replied_at count payloads too_long stop write_failed number reply not_last good 
     (ap (λ b. write_failed && b) not_last ∙ and_no write_failed) (ap (λ b. (number == 0) && b) good ∙ and_no (number == 0))
     ∙ ap (λ (o : Option (List ℕ)). replied o too stop) is
 
-not_last : (number count : ℕ) → number + 1 < count → (number + 1 == count) ≡ false
+pub not_last : (number count : ℕ) → number + 1 < count → (number + 1 == count) ≡ false
 not_last number count less = grind (arith, nat_tests)
 
 -- what is read of the whole begins with what is read of the front
-begins_with : (front behind : List ℕ) (first payloads : List (List ℕ)) (tail : Tail) → EachListIsFrames → OneReading → FramesGoOn → IsFrames front first (Rest [])
+pub begins_with : (front behind : List ℕ) (first payloads : List (List ℕ)) (tail : Tail) → EachListIsFrames → OneReading → FramesGoOn → IsFrames front first (Rest [])
     → IsFrames (front ++ behind) payloads tail → (more : List (List ℕ)) × (payloads ≡ first ++ more)
 begins_with front behind first payloads tail some one goes frames whole =
     let later = some behind in

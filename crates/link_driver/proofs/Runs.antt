@@ -7,9 +7,11 @@ use Rattle.link_driver.specs.declared.link.TheConstants.{MOST_BYTES}
 use Rattle.link_driver.specs.declared.link.Unstarted.{Unstarted}
 use Rattle.link_driver.specs.Links.{KeySteps, LinkSeen, RunningSeen, whole_of}
 use Rattle.link_driver.specs.Requests.{Wanted, key_of, first_command}
-use Rattle.link_driver.specs.Driven.{Each, bytes_of, running_bytes, DriverSeen, IsDriven, IsRunning, Turn, Process, Failure, requests_in, links_in, unstarted_in, AreTurns}
+use Rattle.link_driver.specs.Driven.{bytes_of, running_bytes, DriverSeen, IsDriven, IsRunning, Turn, Process, Failure, requests_in, links_in, unstarted_in, AreTurns}
+use Rattle.link_driver.specs.LinkTable.{asked_keys}
+use Rattle.link_driver.specs.Lists.{Each}
 use Rattle.link_driver.specs.Ran.{HasRun}
-use Rattle.link_driver.specs.Laws.{asked_keys, RunsAskOnce, IsSublist, none, takes, skips, IsServedOf, ProcessesServe, GaveLinks, RunsGiveLinks, EachPair, then_commands, IsStartedFor, IsFailedFor, RunsStartAsWanted, FailedBetween, FailedStartsHaveCauses, HasCause, StopsHaveCauses, NothingWantedNothingDone}
+use Rattle.link_driver.specs.Laws.{RunsAskOnce, IsSublist, none, takes, skips, IsServedOf, ProcessesServe, GaveLinks, RunsGiveLinks, EachPair, then_commands, IsStartedFor, IsFailedFor, RunsStartAsWanted, FailedBetween, FailedStartsHaveCauses, HasCause, StopsHaveCauses, NothingWantedNothingDone}
 
 most_given : (done : DriverSeen) → done.running ≡ None → MOST_BYTES < bytes_of done.links + running_bytes done.running → MOST_BYTES < bytes_of done.links
 most_given done is_none over =
@@ -38,7 +40,7 @@ has_run wanted before after done is_none driven =
 
 -- each request once
 
-keys_once : (before : StarterSeen) (turns : List Turn) (after : StarterSeen) → AreTurns before turns after
+pub keys_once : (before : StarterSeen) (turns : List Turn) (after : StarterSeen) → AreTurns before turns after
     → IsPermutation (map key_of (flat_map requests_in turns)) (asked_keys (flat_map links_in turns) (flat_map unstarted_in turns))
 keys_once before [] after are = IsPermutation-refl []
 keys_once before (Process link earlier last ∷ turns) after (between, is, are) =

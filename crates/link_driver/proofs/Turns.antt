@@ -12,10 +12,12 @@ use Rattle.link_driver.specs.declared.link.TheConstants.{MOST_BYTES}
 use Rattle.link_driver.specs.declared.link.Unstarted.{Unstarted}
 use Rattle.link_driver.specs.Links.{KeySteps, LinkSeen, RunningSeen, whole_of, running_whole, Holds, IsWritten}
 use Rattle.link_driver.specs.LinkTable.{is_result}
+use Rattle.link_driver.specs.Lists.{Each}
+use Rattle.plugin_messages.specs.declared.message.Outcome.{Outcome}
 use Rattle.link_driver.specs.Requests.{Wanted, key_of, module_of, greeting_frame, request_frame, bytes_for, write_for, sent_for, first_command}
 use Rattle.link_driver.specs.Awaiting.{AreAwaited}
 use Rattle.link_driver.specs.Asking.{IsRetired, HasAnswered, HasEnded, IsAskedOf, goes_on, ends}
-use Rattle.link_driver.specs.Driven.{DriverSeen, Each, bytes_of, running_bytes, AreReplies, HasReplies, IsReady, IsProcess, TakesProcess, IsFailedStart, IsAskedWithin, IsWithin, AreWithin, Turn, Process, Failure, requests_in, links_in, unstarted_in, IsTurn, AreTurns, IsRunning, IsDriven}
+use Rattle.link_driver.specs.Driven.{DriverSeen, bytes_of, running_bytes, AreReplies, HasReplies, IsReady, IsProcess, TakesProcess, IsFailedStart, IsAskedWithin, IsWithin, AreWithin, Turn, Process, Failure, requests_in, links_in, unstarted_in, IsTurn, AreTurns, IsRunning, IsDriven}
 use Rattle.link_driver.proofs.Written.{gains_whole, given_held}
 
 -- lists
@@ -24,7 +26,7 @@ pub each_more : {A : Type 0} (P : A → Type 0) (xs : List A) (x : A) → Each P
 each_more P [] x each is = (is, tt)
 each_more P (y ∷ ys) x each is = (each.0, each_more P ys x each.1 is)
 
-bytes_more : (links : List LinkSeen) (link : LinkSeen) → bytes_of (links ++ link ∷ []) ≡ bytes_of links + length link.got
+pub bytes_more : (links : List LinkSeen) (link : LinkSeen) → bytes_of (links ++ link ∷ []) ≡ bytes_of links + length link.got
 bytes_more [] link = omega arith
 bytes_more (first ∷ links) link = omega (arith, bytes_more links link)
 
@@ -90,31 +92,31 @@ abbrev has_behind : (count : ℕ) (old new gained : List ℕ) (payloads : List (
     → HasReplies count new
 has_behind count old new gained payloads frames replies grows = record { front = old; behind = gained; payloads = payloads; whole = grows; frames = frames; replies = replies }
 
-one_reply : (payloads : List (List ℕ)) → AreReplies 0 payloads → (new : List (List ℕ)) → AreAwaited true new → AreReplies 1 (payloads ++ new)
-one_reply payloads none new (greeting, reply, are, greets, replies) = record {
+one_reply : (payloads : List (List ℕ)) → AreReplies 0 payloads → (new : List (List ℕ)) (said : Outcome) → AreAwaited true said new → AreReplies 1 (payloads ++ new)
+one_reply payloads none new said (greeting, reply, are, greets, gives) = record {
   greeting = greeting;
   replies = reply ∷ [];
   in_order = ap (λ (l : List (List ℕ)). l ++ new) none ∙ are;
   greets = greets;
   enough = omega arith;
-  each = (replies, tt);
+  each = (gives.replies, tt);
 }
 
-reply_more : (count : ℕ) (payloads : List (List ℕ)) → AreReplies (suc count) payloads → (new : List (List ℕ)) → AreAwaited false new
+reply_more : (count : ℕ) (payloads : List (List ℕ)) → AreReplies (suc count) payloads → (new : List (List ℕ)) (said : Outcome) → AreAwaited false said new
     → AreReplies (suc (suc count)) (payloads ++ new)
-reply_more count payloads greeted new (reply, are, replies) = record {
+reply_more count payloads greeted new said (reply, are, gives) = record {
   greeting = greeted.greeting;
   replies = greeted.replies ++ reply ∷ [];
   in_order = ap (λ (l : List (List ℕ)). l ++ new) greeted.in_order ∙ ap (λ (l : List (List ℕ)). greeted.greeting ∷ (greeted.replies ++ l)) are;
   greets = greeted.greets;
   enough = omega (arith, greeted.enough, length-append greeted.replies (reply ∷ []));
-  each = each_more (λ (r : List ℕ). is_result r ≡ true) greeted.replies reply greeted.each replies;
+  each = each_more (λ (r : List ℕ). is_result r ≡ true) greeted.replies reply greeted.each gives.replies;
 }
 
-replies_more : (requests : List Wanted) (payloads new : List (List ℕ)) → AreReplies (length requests) payloads → AreAwaited (is_first requests) new
+replies_more : (requests : List Wanted) (payloads new : List (List ℕ)) (said : Outcome) → AreReplies (length requests) payloads → AreAwaited (is_first requests) said new
     → AreReplies (suc (length requests)) (payloads ++ new)
-replies_more [] payloads new are came = one_reply payloads are new came
-replies_more (first ∷ more) payloads new are came = reply_more (length more) payloads are new came
+replies_more [] payloads new said are came = one_reply payloads are new said came
+replies_more (first ∷ more) payloads new said are came = reply_more (length more) payloads are new said came
 
 longer : (requests : List Wanted) (last : Wanted) → length (requests ++ last ∷ []) ≡ suc (length requests)
 longer requests last = omega (arith, length-append requests (last ∷ []))
@@ -134,9 +136,9 @@ within_ready given requests link got gained ready few grows = record {
 of_same : (requests : List Wanted) (one other : List ℕ) → other ≡ one → Each (λ wanted. module_of wanted ≡ one) requests → Each (λ wanted. module_of wanted ≡ other) requests
 of_same requests one other same each = subst (λ (m : List ℕ). Each (λ wanted. module_of wanted ≡ m) requests) (sym same) each
 
-ready_more : (requests : List Wanted) (wanted : Wanted) (link next : RunningSeen) → FramesGoOn → IsReady requests link → module_of wanted ≡ link.module_name
-    → HasAnswered link (key_of wanted) (write_for requests wanted.request) (is_first requests) next → IsReady (requests ++ wanted ∷ []) next
-ready_more requests wanted link next goes ready of_module answered = record {
+ready_more : (requests : List Wanted) (wanted : Wanted) (link next : RunningSeen) (said : Outcome) → FramesGoOn → IsReady requests link → module_of wanted ≡ link.module_name
+    → HasAnswered link (key_of wanted) (write_for requests wanted.request) (is_first requests) said next → IsReady (requests ++ wanted ∷ []) next
+ready_more requests wanted link next said goes ready of_module answered = record {
   asked = answered.asked ∙ ap (λ l. l ++ key_of wanted ∷ []) ready.asked ∙ sym (keys_more requests wanted);
   of_module = of_same (requests ++ wanted ∷ []) link.module_name next.module_name answered.module_name (each_more (λ (w : Wanted). module_of w ≡ link.module_name) requests wanted ready.of_module of_module);
   held = subst (λ (b : List ℕ). Holds b next.writer) (sent_more requests wanted) (answered.held (sent_for requests) ready.held);
@@ -147,7 +149,7 @@ ready_more requests wanted link next goes ready of_module answered = record {
       (goes link.got answered.replies.gained [] ready.payloads answered.replies.payloads (Rest []) ready.frames answered.replies.read);
   replies =
       subst (λ (n : ℕ). AreReplies n (ready.payloads ++ answered.replies.payloads)) (sym (longer requests wanted))
-      (replies_more requests ready.payloads answered.replies.payloads ready.replies answered.replies.awaited_so);
+      (replies_more requests ready.payloads answered.replies.payloads said ready.replies answered.replies.awaited_so);
 }
 
 process_ended : (requests : List Wanted) (wanted : Wanted) (link : RunningSeen) (closed : LinkSeen) → IsReady requests link → module_of wanted ≡ link.module_name
@@ -183,10 +185,10 @@ same_seen one other links unstarted room running =
     ap₂ (λ (l : List LinkSeen) (u : List Unstarted). made l u other.room other.running) links unstarted
     ∙ ap₂ (λ (r : ℕ) (x : Option RunningSeen). made one.links one.unstarted r x) room running
 
-pub as_answered : (link next : RunningSeen) (key other : KeySteps) (sent bytes : List ℕ) (first : Bool) → key ≡ other → sent ≡ bytes
-    → HasAnswered link key sent first next → HasAnswered link other bytes first next
-as_answered link next key other sent bytes first same_key same_bytes is =
-    subst (λ k. HasAnswered link k bytes first next) same_key (subst (λ b. HasAnswered link key b first next) same_bytes is)
+pub as_answered : (link next : RunningSeen) (key other : KeySteps) (sent bytes : List ℕ) (first : Bool) (said : Outcome) → key ≡ other → sent ≡ bytes
+    → HasAnswered link key sent first said next → HasAnswered link other bytes first said next
+as_answered link next key other sent bytes first said same_key same_bytes is =
+    subst (λ k. HasAnswered link k bytes first said next) same_key (subst (λ b. HasAnswered link key b first said next) same_bytes is)
 
 pub as_ended : (link : RunningSeen) (closed : LinkSeen) (key other : KeySteps) (sent bytes : List ℕ) → key ≡ other → sent ≡ bytes
     → HasEnded link key sent closed → HasEnded link other bytes closed
@@ -299,12 +301,12 @@ one_behind wanted done requests left one nothing is =
 
 -- one more request of a process
 asked_of : (wanted left requests : List Wanted) (one : Wanted) (turns : List Turn) (before between after : StarterSeen) (done next : DriverSeen)
-    (link : RunningSeen) → FramesGoOn → left ≡ [] → wanted ≡ flat_map requests_in turns ++ (requests ++ left)
+    (link : RunningSeen) (outcome : Option Outcome) → FramesGoOn → left ≡ [] → wanted ≡ flat_map requests_in turns ++ (requests ++ left)
     → done.links ≡ flat_map links_in turns → done.unstarted ≡ flat_map unstarted_in turns → AreTurns before turns between
     → done.room ≡ (MOST_BYTES + 1) - bytes_of done.links → IsReady requests link → module_of one ≡ link.module_name
     → TakesProcess between (first_command requests one) (running_whole link) after → AreWithin 0 turns → bytes_of done.links + length link.got ≤ MOST_BYTES
-    → IsAskedOf done link (key_of one) (write_for requests one.request) (is_first requests) next → IsDriven (wanted ++ one ∷ []) before next after
-asked_of wanted left requests one turns before between after done next link goes nothing in_order links unstarted are room ready of_module takes within few (goes_on answered is same) =
+    → IsAskedOf done link (key_of one) (write_for requests one.request) (is_first requests) outcome next → IsDriven (wanted ++ one ∷ []) before next after
+asked_of wanted left requests one turns before between after done next link outcome goes nothing in_order links unstarted are room ready of_module takes within few (goes_on answered said is says same) =
     subst (λ (d : DriverSeen). IsDriven (wanted ++ one ∷ []) before d after) (sym same)
     (record {
       turns = turns;
@@ -320,14 +322,14 @@ asked_of wanted left requests one turns before between after done next link goes
         earlier = requests;
         last = one;
         in_order = refl;
-        ready = ready_more requests one link answered goes ready of_module is;
+        ready = ready_more requests one link answered said goes ready of_module is;
         asked_within = within_ready (bytes_of done.links) requests link answered.got is.gains.gained ready few is.gains.appended;
         started = takes_whole between after _ _ (running_whole link) (running_whole answered) refl (gains_whole link.reader answered.reader link.got answered.got is.gains) takes;
       };
       room = room;
       limit = inl refl;
     })
-asked_of wanted left requests one turns before between after done next link goes nothing in_order links unstarted are room ready of_module takes within few (ends closed is same) =
+asked_of wanted left requests one turns before between after done next link outcome goes nothing in_order links unstarted are room ready of_module takes within few (ends closed is last same) =
     subst (λ (d : DriverSeen). IsDriven (wanted ++ one ∷ []) before d after) (sym same)
     (then_process (wanted ++ one ∷ []) [] requests one turns before between after done closed
     (one_behind wanted (flat_map requests_in turns) requests left one nothing in_order)
@@ -347,10 +349,10 @@ not_first : (requests earlier : List Wanted) (last : Wanted) → requests ≡ ea
 not_first requests [] last is = ap is_first (sym is)
 not_first requests (first ∷ more) last is = ap is_first (sym is)
 
-as_asked : (done next : DriverSeen) (link : RunningSeen) (key : KeySteps) (sent other : List ℕ) (first second : Bool) → sent ≡ other → first ≡ second
-    → IsAskedOf done link key sent first next → IsAskedOf done link key other second next
-as_asked done next link key sent other first second sent_same same is =
-    subst (λ (b : Bool). IsAskedOf done link key other b next) same (subst (λ (s : List ℕ). IsAskedOf done link key s first next) sent_same is)
+as_asked : (done next : DriverSeen) (link : RunningSeen) (key : KeySteps) (sent other : List ℕ) (first second : Bool) (outcome : Option Outcome) → sent ≡ other → first ≡ second
+    → IsAskedOf done link key sent first outcome next → IsAskedOf done link key other second outcome next
+as_asked done next link key sent other first second outcome sent_same same is =
+    subst (λ (b : Bool). IsAskedOf done link key other b outcome next) same (subst (λ (s : List ℕ). IsAskedOf done link key s first outcome next) sent_same is)
 
 few_again : (done : DriverSeen) (link : RunningSeen) (given : ℕ) → done.room ≡ (MOST_BYTES + 1) - given → nat_le done.room (length link.got) ≡ false
     → given + length link.got ≤ MOST_BYTES
@@ -361,17 +363,17 @@ few_first : (done : DriverSeen) (link : RunningSeen) (given : ℕ) → done.room
 few_first done link given room some got = omega (arith, some, room, ap length got)
 
 -- the process that runs is asked once more
-pub asked_again : (wanted : List Wanted) (one : Wanted) (before after : StarterSeen) (done next : DriverSeen) (link : RunningSeen) → FramesGoOn
+pub asked_again : (wanted : List Wanted) (one : Wanted) (before after : StarterSeen) (done next : DriverSeen) (link : RunningSeen) (outcome : Option Outcome) → FramesGoOn
     → IsDriven wanted before (record done { running = Some link }) after → nat_le done.room (length link.got) ≡ false → link.module_name ≡ module_of one
-    → IsAskedOf done link (key_of one) (bytes_for false one.request) false next → IsDriven (wanted ++ one ∷ []) before next after
-asked_again wanted one before after done next link goes driven some of_module is =
+    → IsAskedOf done link (key_of one) (bytes_for false one.request) false outcome next → IsDriven (wanted ++ one ∷ []) before next after
+asked_again wanted one before after done next link outcome goes driven some of_module is =
     let runs = driven.running in
-    asked_of wanted driven.left driven.requests one driven.turns before driven.between after done next link goes
+    asked_of wanted driven.left driven.requests one driven.turns before driven.between after done next link outcome goes
     (none_left wanted before after (record done { running = Some link }) driven some) driven.in_order driven.links driven.unstarted driven.are_turns driven.room
     runs.ready (sym of_module)
     (takes_whole driven.between after _ _ (running_whole link) (running_whole link) (first_for driven.requests runs.earlier runs.last one runs.in_order) refl runs.started)
     driven.within (few_again done link (bytes_of done.links) driven.room some)
-    (as_asked done next link (key_of one) _ _ false (is_first driven.requests) (writes_on driven.requests runs.earlier runs.last one.request runs.in_order)
+    (as_asked done next link (key_of one) _ _ false (is_first driven.requests) outcome (writes_on driven.requests runs.earlier runs.last one.request runs.in_order)
     (not_first driven.requests runs.earlier runs.last runs.in_order) is)
 
 fresh_ready : (link : RunningSeen) → NoFrames → link.asked ≡ [] → link.got ≡ [] → IsFreshWriter link.writer → IsFreshReader link.reader → IsReady [] link
@@ -403,12 +405,12 @@ left_of given None is = is
 left_of given (Some rest) is = is
 
 -- a process is started, and asked for the first time
-pub asked_first : (wanted : List Wanted) (one : Wanted) (before middle after : StarterSeen) (done next : DriverSeen) (link : RunningSeen) → NoFrames → FramesGoOn
+pub asked_first : (wanted : List Wanted) (one : Wanted) (before middle after : StarterSeen) (done next : DriverSeen) (link : RunningSeen) (outcome : Option Outcome) → NoFrames → FramesGoOn
     → done.running ≡ None → 0 < done.room → IsDriven wanted before done middle → link.module_name ≡ module_of one → link.asked ≡ [] → link.got ≡ []
     → IsFreshWriter link.writer → IsFreshReader link.reader → TakesLink middle.links after.links link.reader.left
     → after.commands ≡ then_started middle.commands one.command → middle.faults ≤ after.faults
-    → IsAskedOf done link (key_of one) (bytes_for true one.request) true next → IsDriven (wanted ++ one ∷ []) before next after
-asked_first wanted one before middle after done next link none goes none_runs some driven of_module asked got writer reader takes commands faults is =
+    → IsAskedOf done link (key_of one) (bytes_for true one.request) true outcome next → IsDriven (wanted ++ one ∷ []) before next after
+asked_first wanted one before middle after done next link outcome none goes none_runs some driven of_module asked got writer reader takes commands faults is =
     let runs = nothing_runs wanted before middle done driven none_runs in
     let takes_all : TakesProcess middle one.command (running_whole link) after = record {
       link_taken =
@@ -417,7 +419,7 @@ asked_first wanted one before middle after done next link none goes none_runs so
       commands = commands;
       faults = faults;
     } in
-    asked_of wanted driven.left [] one driven.turns before driven.between after done next link goes
+    asked_of wanted driven.left [] one driven.turns before driven.between after done next link outcome goes
     (none_left_of wanted before middle done driven none_runs some)
     (driven.in_order ∙ ap (λ (r : List Wanted). flat_map requests_in driven.turns ++ (r ++ driven.left)) runs.0)
     driven.links driven.unstarted driven.are_turns driven.room (fresh_ready link none asked got writer reader) (sym of_module)

@@ -5,11 +5,13 @@ use Rattle.plugin_frames.specs.Frames.{Tail, Rest, IsFrames}
 use Rattle.plugin_frames.specs.Feeding.{LeavesRest, IsWaiting}
 use Rattle.plugin_frames.specs.Cutting.{payloads_of}
 use Rattle.plugin_frames.specs.Laws.{FramesGoOn, NoFrames}
+use Rattle.plugin_messages.specs.declared.message.Outcome.{Outcome}
 use Rattle.plugin_messages.specs.PluginOf.{plugin_message_of}
 use Rattle.swift_base.specs.Outside.{SourceSeen}
 use Rattle.link_driver.specs.Links.{Gains}
+use Rattle.link_driver.specs.declared.replies.Response.TheVariants as response
 use Rattle.link_driver.specs.LinkTable.{greets_badly, is_capability}
-use Rattle.link_driver.specs.Awaiting.{HasRead, IsSoleResult, Replies}
+use Rattle.link_driver.specs.Awaiting.{HasRead, IsSoleReply, Replies}
 
 pub read_none : (got : List ℕ) (payloads : List (List ℕ)) (frames : Tail) → payloads ≡ [] → frames ≡ Rest [] → NoFrames → HasRead got got payloads frames
 read_none got payloads frames nothing fresh none = record {
@@ -54,13 +56,13 @@ not_bad true is = refl
 not_bad false is = sym is
 
 -- one reply came
-pub replied_once : (old new : List ℕ) (payloads : List (List ℕ)) (frames : Tail) → HasRead old new payloads frames → IsSoleResult payloads frames → Replies false old new
-replied_once old new payloads frames has sole = record {
+pub replied_once : (old new : List ℕ) (payloads : List (List ℕ)) (frames : Tail) (said : Outcome) → HasRead old new payloads frames → IsSoleReply payloads frames said → Replies false said old new
+replied_once old new payloads frames said has sole = record {
   gained = has.gained;
   payloads = payloads;
   appended = has.appended;
   read = subst (λ (t : Tail). IsFrames has.gained payloads t) (rest_alone frames has.rest has.waits sole.alone) has.read;
-  awaited_so = (sole.reply, sole.one, sole.replies);
+  awaited_so = (sole.reply, sole.one, sole.gives);
 }
 
 greeted : (first greeting : List ℕ) (before more replies : List (List ℕ)) → greeting ∷ replies ≡ (first ∷ before) ++ more → first ≡ greeting
@@ -73,10 +75,10 @@ greets_first greeting (first ∷ before) more replies some good is =
     not_bad _ (subst (λ (g : List ℕ). not (is_capability (plugin_message_of g)) ≡ false) (greeted first greeting before more replies is) good)
 
 -- the greeting's answer came first, and then one reply
-pub replied_both : (old new greeting : List ℕ) (before more payloads replies : List (List ℕ)) (frames : Tail) → HasRead old new payloads frames
-    → 1 ≤ length before → greets_badly before ≡ false → payloads ≡ before ++ more → payloads ≡ greeting ∷ replies → IsSoleResult replies frames
-    → Replies true old new
-replied_both old new greeting before more payloads replies frames has some good grows splits sole = record {
+pub replied_both : (old new greeting : List ℕ) (before more payloads replies : List (List ℕ)) (frames : Tail) (said : Outcome) → HasRead old new payloads frames
+    → 1 ≤ length before → greets_badly before ≡ false → payloads ≡ before ++ more → payloads ≡ greeting ∷ replies → IsSoleReply replies frames said
+    → Replies true said old new
+replied_both old new greeting before more payloads replies frames said has some good grows splits sole = record {
   gained = has.gained;
   payloads = payloads;
   appended = has.appended;
@@ -86,6 +88,9 @@ replied_both old new greeting before more payloads replies frames has some good 
     sole.reply,
     splits ∙ ap (λ (r : List (List ℕ)). greeting ∷ r) sole.one,
     greets_first greeting before more replies some good (sym splits ∙ grows),
-    sole.replies,
+    sole.gives,
   );
 }
+
+pub reply_says : (one other : Outcome) → response.Reply one ≡ response.Reply other → one ≡ other
+reply_says one other is = cc

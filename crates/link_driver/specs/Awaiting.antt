@@ -3,15 +3,23 @@ use Rattle.std.specs.Prelude.{◌≡◌, ℕ, ◌++◌, Bool, true, false, Optio
 use Rattle.plugin_frames.specs.Frames.{Tail, Rest, IsFrames}
 use Rattle.plugin_frames.specs.Feeding.{IsWaiting}
 use Rattle.plugin_messages.specs.PluginOf.{plugin_message_of}
+use Rattle.plugin_messages.specs.declared.message.Outcome.{Outcome}
 use Rattle.link_driver.specs.declared.link.Stop.{Stop}
 use Rattle.link_driver.specs.declared.replies.Awaited.{Awaited}
 use Rattle.link_driver.specs.declared.replies.Awaited.TheVariants as awaited
-use Rattle.link_driver.specs.LinkTable.{is_capability, is_result}
+use Rattle.link_driver.specs.declared.replies.Response.{Response}
+use Rattle.link_driver.specs.declared.replies.Response.TheVariants as response
+use Rattle.link_driver.specs.LinkTable.{reply_outcome, is_capability, is_result}
 
 abbrev pub stop_of : Awaited → Option Stop
 stop_of awaited.Came = None
 stop_of awaited.Other = None
 stop_of (awaited.Stopped stop) = Some stop
+
+abbrev pub stop_in : Response → Option Stop
+stop_in (response.Reply outcome) = None
+stop_in response.Other = None
+stop_in (response.Stopped stop) = Some stop
 
 -- since the bytes at the start came those of these payloads, and then less than a frame
 pub record HasRead (start got : List ℕ) (payloads : List (List ℕ)) (frames : Tail) : Type 0 where
@@ -21,24 +29,29 @@ pub record HasRead (start got : List ℕ) (payloads : List (List ℕ)) (frames :
   pub appended : got ≡ start ++ gained
   pub read : IsFrames gained payloads frames
 
+-- a payload that is a reply, and what it says
+pub record GivesReply (reply : List ℕ) (outcome : Outcome) : Type 0 where
+  pub replies : is_result reply ≡ true
+  pub says : outcome ≡ reply_outcome (plugin_message_of reply)
+
 -- one reply, and nothing behind it
-pub record IsSoleResult (payloads : List (List ℕ)) (frames : Tail) : Type 0 where
+pub record IsSoleReply (payloads : List (List ℕ)) (frames : Tail) (outcome : Outcome) : Type 0 where
   pub reply : List ℕ
   pub one : payloads ≡ reply ∷ []
-  pub replies : is_result reply ≡ true
+  pub gives : GivesReply reply outcome
   pub alone : ¬ IsWaiting frames
 
 -- a reply, and the greeting's answer before the first one
-abbrev pub AreAwaited : Bool → List (List ℕ) → Type 0
-AreAwaited true payloads =
+abbrev pub AreAwaited : Bool → Outcome → List (List ℕ) → Type 0
+AreAwaited true outcome payloads =
     (greeting : List ℕ) × (reply : List ℕ) × (payloads ≡ greeting ∷ reply ∷ [])
-    × (is_capability (plugin_message_of greeting) ≡ true) × (is_result reply ≡ true)
-AreAwaited false payloads = (reply : List ℕ) × (payloads ≡ reply ∷ []) × (is_result reply ≡ true)
+    × (is_capability (plugin_message_of greeting) ≡ true) × GivesReply reply outcome
+AreAwaited false outcome payloads = (reply : List ℕ) × (payloads ≡ reply ∷ []) × GivesReply reply outcome
 
 -- what came is what was awaited, and nothing else
-pub record Replies (is_first : Bool) (old new : List ℕ) : Type 0 where
+pub record Replies (is_first : Bool) (outcome : Outcome) (old new : List ℕ) : Type 0 where
   pub gained : List ℕ
   pub payloads : List (List ℕ)
   pub appended : new ≡ old ++ gained
   pub read : IsFrames gained payloads (Rest [])
-  pub awaited_so : AreAwaited is_first payloads
+  pub awaited_so : AreAwaited is_first outcome payloads

@@ -11,6 +11,7 @@ use Rattle.link_driver.specs.declared.driver.Done.{Done}
 use Rattle.link_driver.specs.declared.driver.Driver.{Driver}
 use Rattle.link_driver.specs.Links.{LinkSeen, RunningSeen, link_seen, running_seen, whole_of, running_whole, StopHasCause, HasNotStopped, Holds, IsWritten}
 use Rattle.link_driver.specs.LinkTable.{is_capability, is_result}
+use Rattle.link_driver.specs.Lists.{Each}
 use Rattle.link_driver.specs.Requests.{Wanted, key_of, module_of, write_for, sent_for, first_command}
 
 -- A driver, apart from where it lies in memory.
@@ -31,10 +32,6 @@ done_seen writer_seen reader_seen done running = record {
 abbrev pub driver_seen : {W R : Type 0} → (W → SinkSeen) → (R → SourceSeen) → Driver W R → DriverSeen
 driver_seen writer_seen reader_seen driver =
     done_seen writer_seen reader_seen driver.done (option_map (running_seen writer_seen reader_seen) driver.running)
-
-abbrev pub Each : {A : Type 0} → (A → Type 0) → List A → Type 0
-Each P [] = Unit {0}
-Each P (x ∷ xs) = P x × Each P xs
 
 abbrev pub MayGoOn : Option RunningSeen → Type 0
 MayGoOn None = Unit {0}
@@ -57,6 +54,10 @@ bytes_of (link ∷ links) = length link.got + bytes_of links
 abbrev pub running_bytes : Option RunningSeen → ℕ
 running_bytes None = 0
 running_bytes (Some link) = length link.got
+
+-- the processes gave more than is read, so that nothing more is asked
+abbrev pub IsSpent : DriverSeen → Type 0
+IsSpent driver = MOST_BYTES < bytes_of driver.links + running_bytes driver.running
 
 -- Payloads that answer the greeting and then at least so many requests.
 pub record HasGreeted (count : ℕ) (payloads : List (List ℕ)) : Type 0 where
@@ -185,4 +186,4 @@ pub record IsDriven (wanted : List Wanted) (before : StarterSeen) (driver : Driv
   pub within : AreWithin 0 turns
   pub running : IsRunning (bytes_of driver.links) between driver.running requests after
   pub room : driver.room ≡ (MOST_BYTES + 1) - bytes_of driver.links
-  pub limit : (left ≡ []) ⊎ (MOST_BYTES < bytes_of driver.links + running_bytes driver.running)
+  pub limit : (left ≡ []) ⊎ IsSpent driver

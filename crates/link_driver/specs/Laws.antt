@@ -1,21 +1,17 @@
 -- What holds of each run: who was asked what, what was started, and why a start or a stop came. This project's own.
 use Rattle.std.specs.Prelude.{◌≡◌, ℕ, ◌+◌, ◌<◌, ◌≤◌, ◌++◌, ◌⊎◌, true, Option, Some, None, List, [], ◌∷◌, length, map, slice_get}
-use Rattle.std.specs.List.{flat_map}
 use Rattle.std.specs.List.Sorted.{IsPermutation}
 use Rattle.swift_base.specs.Told.{Rose}
 use Rattle.swift_base.specs.Outside.{StarterSeen, Commands}
 use Rattle.plugin_messages.specs.declared.message.Outcome.{Outcome}
 use Rattle.link_driver.specs.declared.link.TheConstants.{MOST_BYTES}
 use Rattle.link_driver.specs.declared.link.Unstarted.{Unstarted}
-use Rattle.link_driver.specs.Links.{KeySteps, LinkSeen, whole_of, StopHasCause}
-use Rattle.link_driver.specs.LinkTable.{IsTableOf, is_reply}
+use Rattle.link_driver.specs.Links.{LinkSeen, whole_of, StopHasCause}
+use Rattle.link_driver.specs.LinkTable.{IsTableOf, is_reply, asked_keys}
+use Rattle.link_driver.specs.Lists.{Each}
 use Rattle.link_driver.specs.Requests.{Wanted, key_of, first_command}
-use Rattle.link_driver.specs.Driven.{Each, IsProcess, bytes_of}
+use Rattle.link_driver.specs.Driven.{IsProcess, bytes_of}
 use Rattle.link_driver.specs.Ran.{HasRun}
-
--- the keys that were asked, of processes and of starts that failed
-abbrev pub asked_keys : List LinkSeen → List Unstarted → List KeySteps
-asked_keys links unstarted = flat_map (λ link. link.asked) links ++ map (λ entry. entry.key) unstarted
 
 -- Each request is asked once, or left; what is left are the last, and only where the processes gave more bytes than
 -- are read.

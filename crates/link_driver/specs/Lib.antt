@@ -6,3 +6,5 @@ pub mod Ran
 pub mod Laws
 pub mod Awaiting
 pub mod Asking
+pub mod Lists
+pub mod Told

@@ -1,6 +1,7 @@
 -- What became of the keys that a process was asked. This project's own; the payloads are those of swift-syntax's
 -- plug-ins, by their place alone: the first answers the greeting, and each later one the request of its number.
-use Rattle.std.specs.Prelude.{◌≡◌, ℕ, zero, suc, ◌+◌, ◌==◌, ◌&&◌, ◌||◌, ◌++◌, not, Bool, true, false, if◌then◌else◌, Option, Some, None, Result, Ok, Err, List, [], ◌∷◌, length, map, slice_get}
+use Rattle.std.specs.Prelude.{◌≡◌, ℕ, zero, suc, ◌+◌, ◌==◌, ◌&&◌, ◌||◌, ◌++◌, not, Bool, true, false, if◌then◌else◌, Option, Some, None, Result, Ok, Err, List, [], ◌∷◌, length, map, slice_get, ◌-◌}
+use Rattle.std.specs.List.{flat_map, Contains}
 use Rattle.plugin_frames.specs.Frames.{Tail, Rest, Length, IsFrames}
 use Rattle.plugin_messages.specs.PluginOf.{plugin_message_of}
 use Rattle.plugin_messages.specs.declared.message.PluginMessage.{PluginMessage}
@@ -13,6 +14,7 @@ use Rattle.link_driver.specs.declared.link.Stop.{Stop}
 use Rattle.link_driver.specs.declared.link.Stop.TheVariants as stop
 use Rattle.link_driver.specs.declared.link.Unstarted.{Unstarted}
 use Rattle.link_driver.specs.Links.{KeySteps, LinkSeen}
+use Rattle.link_driver.specs.Lists.{Each}
 
 abbrev pub no_reply : Outcome
 no_reply = outcome.Failed cause.NoReply
@@ -87,21 +89,31 @@ pub record IsLinkTable (count : ℕ) (got : List ℕ) (stop : Stop) (write_faile
 abbrev pub IsTableOf : LinkSeen → List (Option Outcome) → Type 0
 IsTableOf link outcomes = IsLinkTable (length link.asked) link.got link.stop link.write_failed outcomes
 
--- the keys that have an outcome, with it
-abbrev pub decided : List KeySteps → List (Option Outcome) → List (KeySteps × Outcome)
-decided [] outcomes = []
-decided (key ∷ keys) [] = []
-decided (key ∷ keys) (None ∷ outcomes) = decided keys outcomes
-decided (key ∷ keys) (Some o ∷ outcomes) = (key, o) ∷ decided keys outcomes
+-- the last key's outcome
+pub record IsLastOutcome (count : ℕ) (got : List ℕ) (stop : Stop) (write_failed : Bool) (last : Option Outcome) : Type 0 where
+  pub payloads : List (List ℕ)
+  pub tail : Tail
+  pub frames : IsFrames got payloads tail
+  pub is_last : last ≡ outcome_at count payloads (is_length tail) stop write_failed (count - 1)
 
--- the pairs of all processes, in their order
-abbrev pub AreLinkPairs : List LinkSeen → List (KeySteps × Outcome) → Type 0
-AreLinkPairs [] pairs = pairs ≡ []
-AreLinkPairs (link ∷ links) pairs =
-    (outcomes : List (Option Outcome)) × (rest : List (KeySteps × Outcome)) × IsTableOf link outcomes
-    × (pairs ≡ decided link.asked outcomes ++ rest) × AreLinkPairs links rest
+-- A table: the outcome of a key, where there is one.
+abbrev pub Look : Type 0
+Look = KeySteps → Option Outcome
 
--- The table of a run: the pairs of all processes, and then a failure for each failed start.
-abbrev pub IsRunTable : List LinkSeen → List Unstarted → List (KeySteps × Outcome) → Type 0
-IsRunTable links unstarted pairs =
-    (asked : List (KeySteps × Outcome)) × AreLinkPairs links asked × (pairs ≡ asked ++ map (λ entry. (entry.key, no_reply)) unstarted)
+-- the table has a process's outcomes, and none for a key that may still have been answered
+abbrev pub TellsLink : Look → LinkSeen → Type 0
+TellsLink table link = (outcomes : List (Option Outcome)) × IsTableOf link outcomes × (map table link.asked ≡ outcomes)
+
+-- the table has a failure for a start that failed
+abbrev pub TellsFailure : Look → Unstarted → Type 0
+TellsFailure table entry = table entry.key ≡ Some no_reply
+
+-- the keys that were asked, of processes and of starts that failed
+abbrev pub asked_keys : List LinkSeen → List Unstarted → List KeySteps
+asked_keys links unstarted = flat_map (λ link. link.asked) links ++ map (λ entry. entry.key) unstarted
+
+-- The table of a run: what its processes and its failed starts tell, and nothing else.
+pub record IsRunTable (table : Look) (links : List LinkSeen) (unstarted : List Unstarted) : Type 0 where
+  pub links_tell : Each (TellsLink table) links
+  pub failures_tell : Each (TellsFailure table) unstarted
+  pub no_others : (key : KeySteps) → ¬ Contains (asked_keys links unstarted) key → table key ≡ None

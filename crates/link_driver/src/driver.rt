@@ -1,17 +1,20 @@
 // The driver: one process at a time, asked for one key after another.
-ghost use Rattle.std.specs.Prelude.{◌≡◌, ◌++◌, ◌∷◌, [], List, nat_le, map, option_map, IfOk};
+ghost use Rattle.std.specs.Prelude.{◌≡◌, ◌++◌, ◌∷◌, [], List, None, nat_le, map, option_map, IfOk};
 ghost use Rattle.swift_base.specs.Outside.{StarterSeen};
 ghost use Rattle.plugin_messages.specs.Writable.{IsRequestWritable};
-ghost use Rattle.link_driver.specs.Links.{link_seen, running_seen};
+ghost use Rattle.std.specs.Bool.{Decides};
+ghost use Rattle.link_driver.specs.LinkTable.{Look, IsRunTable};
+ghost use Rattle.link_driver.specs.Told.{HasTable, IsPut};
+ghost use Rattle.link_driver.specs.Links.{KeySteps, link_seen, running_seen};
 ghost use Rattle.link_driver.specs.Requests.{Wanted, wanted_of};
-ghost use Rattle.link_driver.specs.Driven.{driver_seen, IsSound, IsDriven, running_bytes};
+ghost use Rattle.link_driver.specs.Driven.{driver_seen, IsSound, IsSpent, IsDriven, running_bytes};
 ghost use Rattle.link_driver.specs.Ran.{HasRun};
 
 use crate::link::{Closed, MOST_BYTES, Running, Unstarted};
 use crate::retiring::{keep_for, stopped};
 use crate::starting::{ask_running, ask_started};
-use plugin_frames::frames_go_on;
-use plugin_messages::Request;
+use plugin_frames::{frames_go_on, one_reading};
+use plugin_messages::{Outcome, Request};
 use std::alloc::{AllocError, Global};
 use swift_base::{Sink, Source, Starter};
 
@@ -43,6 +46,7 @@ impl<W: Sink, R: Source> Driver<W, R> {
     pub fn new(alloc: Global) -> Driver<W, R>
         ensures sound { IsSound (driver_seen W.seen R.seen result) }
         ensures driven { (before : StarterSeen) → IsDriven [] before (driver_seen W.seen R.seen result) before }
+        ensures table { (table : Look) → ((key : KeySteps) → table key ≡ None) → HasTable table (driver_seen W.seen R.seen result) }
     {
         Driver {
             done: Done {
@@ -55,13 +59,24 @@ impl<W: Sink, R: Source> Driver<W, R> {
     }
 }
 
-fn is_spent<W: Sink, R: Source>(driver: &Driver<W, R>) -> bool
-    ensures { result ≡ nat_le driver.now.done.room (running_bytes (option_map (running_seen W.seen R.seen) driver.now.running)) }
+/// Whether all processes together have given more than `MOST_BYTES` bytes, so that nothing more is asked.
+pub fn is_spent<W: Sink, R: Source>(driver: &Driver<W, R>) -> bool
+    ensures room { result ≡ nat_le driver.now.done.room (running_bytes (option_map (running_seen W.seen R.seen) driver.now.running)) }
+    ensures driven { (wanted : List Wanted) (before after : StarterSeen) → IsDriven wanted before (driver_seen W.seen R.seen driver.now) after
+        → Decides result (IsSpent (driver_seen W.seen R.seen driver.now)) }
 {
     match &driver.running {
         Some(link) => driver.done.room <= link.got.len(),
         None => driver.done.room == 0,
     }
+}
+
+/// What was done with one request more, and its outcome: none where it wasn't asked, or where its process gave more than
+/// `MOST_BYTES` bytes without a whole reply.
+#[derive(Drop)]
+pub struct Asked<W: Drop, R: Drop> {
+    pub driver: Driver<W, R>,
+    pub outcome: Option<Outcome>,
 }
 
 /// Asks one request: of the process that runs, where it is the request's module's, else of one that is started for it
@@ -72,19 +87,27 @@ pub fn ask<P: Starter>(
     starter: &mut P,
     command: &str,
     request: &Request,
-) -> Result<Driver<P::Writer, P::Reader>, AllocError>
+) -> Result<Asked<P::Writer, P::Reader>, AllocError>
     requires sound { IsSound (driver_seen P.Writer.seen P.Reader.seen driver) }
     requires writable { IsRequestWritable request.now }
-    ensures sound { IfOk result (λ next. IsSound (driver_seen P.Writer.seen P.Reader.seen next)) }
+    ensures sound { IfOk result (λ a. IsSound (driver_seen P.Writer.seen P.Reader.seen a.driver)) }
     ensures driven { (wanted : List Wanted) (before : StarterSeen)
         → IsDriven wanted before (driver_seen P.Writer.seen P.Reader.seen driver) (P.seen starter.old)
-        → IfOk result (λ next. IsDriven (wanted ++ wanted_of command.now request.now ∷ []) before
-        (driver_seen P.Writer.seen P.Reader.seen next) (P.seen starter.new)) }
+        → IfOk result (λ a. IsDriven (wanted ++ wanted_of command.now request.now ∷ []) before
+        (driver_seen P.Writer.seen P.Reader.seen a.driver) (P.seen starter.new)) }
+    ensures table { (table after : Look) → HasTable table (driver_seen P.Writer.seen P.Reader.seen driver) → table request.now.key ≡ None
+        → IfOk result (λ a. IsPut table request.now.key a.outcome after → HasTable after (driver_seen P.Writer.seen P.Reader.seen a.driver)) }
+    ensures spent { (table : Look) → HasTable table (driver_seen P.Writer.seen P.Reader.seen driver)
+        → IfOk result (λ a. a.outcome ≡ None → IsSpent (driver_seen P.Writer.seen P.Reader.seen a.driver)) }
 {
     frames_go_on();
+    one_reading();
     let driver = keep_for(driver, request.target.module.bytes())?;
     if is_spent(&driver) {
-        return Ok(driver);
+        return Ok(Asked {
+            driver,
+            outcome: None,
+        });
     }
     let Driver { done, running } = driver;
     match running {
@@ -96,8 +119,10 @@ pub fn ask<P: Starter>(
 /// Retires the process that runs, and hands out what was done.
 pub fn finish<W: Sink, R: Source>(driver: Driver<W, R>) -> Result<Ran<W, R>, AllocError>
     requires { IsSound (driver_seen W.seen R.seen driver) }
-    ensures { (wanted : List Wanted) (before after : StarterSeen) → IsDriven wanted before (driver_seen W.seen R.seen driver) after
+    ensures ran { (wanted : List Wanted) (before after : StarterSeen) → IsDriven wanted before (driver_seen W.seen R.seen driver) after
         → IfOk result (λ ran. HasRun wanted before (map (link_seen W.seen R.seen) ran.links.items) ran.unstarted.items after) }
+    ensures table { (table : Look) → HasTable table (driver_seen W.seen R.seen driver)
+        → IfOk result (λ ran. IsRunTable table (map (link_seen W.seen R.seen) ran.links.items) ran.unstarted.items) }
 {
     let done = stopped(driver)?;
     Ok(Ran {

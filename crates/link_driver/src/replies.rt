@@ -1,23 +1,35 @@
 // Awaiting the answers to what was written.
-ghost use Rattle.std.specs.Prelude.{◌≡◌, ◌≤◌, ◌++◌, ℕ, List, None, true, false, length, IfOk};
+ghost use Rattle.std.specs.Prelude.{◌≡◌, ◌≤◌, ◌++◌, ℕ, List, Some, None, true, false, length, IfOk};
 ghost use Rattle.swift_base.specs.Told.{Tells};
 ghost use Rattle.plugin_frames.specs.Cutting.{payloads_of};
 ghost use Rattle.link_driver.specs.Links.{StopHasCause, HasNotStopped, Gains};
 ghost use Rattle.link_driver.specs.LinkTable.{greets_badly};
-ghost use Rattle.link_driver.specs.Awaiting.{stop_of, HasRead, IsSoleResult, Replies};
+ghost use Rattle.link_driver.specs.Awaiting.{stop_of, stop_in, HasRead, IsSoleReply, Replies};
 
 use crate::link::Stop;
-use crate::messages::{greets_badly, is_result};
+use crate::messages::{greets_badly, result_in};
 use crate::pieces::{behind, read_piece};
 use plugin_frames::{FrameReader, Refusal as FrameRefusal, frames_are_read, frames_go_on};
+use plugin_messages::Outcome;
 use std::alloc::{AllocError, Global};
 use swift_base::Source;
 
-/// What came of waiting.
+// What came of waiting for payloads.
 #[derive(Clone, Copy)]
-pub enum Awaited {
-    /// What was awaited, and nothing else.
+pub(crate) enum Awaited {
+    /// As many as were awaited, and maybe more.
     Came,
+    /// Something else: the process is asked nothing more.
+    Other,
+    /// The output stopped before.
+    Stopped(Stop),
+}
+
+/// What came of waiting for the answer to a request.
+#[derive(Drop)]
+pub enum Response {
+    /// A reply, and nothing else.
+    Reply(Outcome),
     /// Something else: the process is asked nothing more.
     Other,
     /// The output stopped before.
@@ -56,21 +68,22 @@ fn await_payloads<R: Source>(
     Ok(Awaited::Came)
 }
 
-// Whether the payloads are one reply, and nothing stands behind it.
-fn is_sole_result(
+// What the one payload says, where it is a reply and nothing stands behind it.
+fn sole_reply(
     alloc: Global,
     frames: &FrameReader,
     payloads: &[Vec<u8>],
-) -> Result<bool, AllocError>
-    ensures { IfOk result (λ is. is ≡ true → IsSoleResult (payloads_of payloads.now) frames.now) }
+) -> Result<Option<Outcome>, AllocError>
+    ensures { IfOk result (λ said. (outcome : Outcome) → said ≡ Some outcome → IsSoleReply (payloads_of payloads.now) frames.now outcome) }
 {
     let [payload] = payloads else {
-        return Ok(false);
+        return Ok(None);
     };
     if frames.waiting() {
-        return Ok(false);
+        return Ok(None);
     }
-    is_result(alloc, payload)
+    let said = result_in(alloc, payload)?;
+    Ok(said)
 }
 
 // The answer to a request behind the first one.
@@ -78,25 +91,25 @@ fn await_result<R: Source>(
     alloc: Global,
     reader: &mut R,
     got: &mut Vec<u8>,
-) -> Result<Awaited, AllocError>
+) -> Result<Response, AllocError>
     requires { HasNotStopped (R.seen reader.old) }
-    ensures goes_on { IfOk result (λ a. stop_of a ≡ None → HasNotStopped (R.seen reader.new)) }
-    ensures cause { IfOk result (λ a. Tells (stop_of a) (StopHasCause (R.seen reader.new) (length got.new.items))) }
+    ensures goes_on { IfOk result (λ a. stop_in a ≡ None → HasNotStopped (R.seen reader.new)) }
+    ensures cause { IfOk result (λ a. Tells (stop_in a) (StopHasCause (R.seen reader.new) (length got.new.items))) }
     ensures gains { IfOk result (λ _. Gains (R.seen reader.old) got.old.items (R.seen reader.new) got.new.items) }
-    ensures replies { IfOk result (λ a. a ≡ Awaited.Came → Replies false got.old.items got.new.items) }
+    ensures replies { IfOk result (λ a. (outcome : Outcome) → a ≡ Response.Reply outcome → Replies false outcome got.old.items got.new.items) }
 {
     frames_are_read();
     let mut frames = FrameReader::new(alloc);
     let mut payloads = Vec::new(alloc);
     match await_payloads(reader, got, &mut frames, &mut payloads, 1)? {
         Awaited::Came => (),
-        Awaited::Other => return Ok(Awaited::Other),
-        Awaited::Stopped(stop) => return Ok(Awaited::Stopped(stop)),
+        Awaited::Other => return Ok(Response::Other),
+        Awaited::Stopped(stop) => return Ok(Response::Stopped(stop)),
     }
-    if is_sole_result(alloc, &frames, &payloads)? {
-        return Ok(Awaited::Came);
+    match sole_reply(alloc, &frames, &payloads)? {
+        Some(outcome) => Ok(Response::Reply(outcome)),
+        None => Ok(Response::Other),
     }
-    Ok(Awaited::Other)
 }
 
 // The answers to the greeting and to the first request.
@@ -104,36 +117,36 @@ fn await_both<R: Source>(
     alloc: Global,
     reader: &mut R,
     got: &mut Vec<u8>,
-) -> Result<Awaited, AllocError>
+) -> Result<Response, AllocError>
     requires { HasNotStopped (R.seen reader.old) }
-    ensures goes_on { IfOk result (λ a. stop_of a ≡ None → HasNotStopped (R.seen reader.new)) }
-    ensures cause { IfOk result (λ a. Tells (stop_of a) (StopHasCause (R.seen reader.new) (length got.new.items))) }
+    ensures goes_on { IfOk result (λ a. stop_in a ≡ None → HasNotStopped (R.seen reader.new)) }
+    ensures cause { IfOk result (λ a. Tells (stop_in a) (StopHasCause (R.seen reader.new) (length got.new.items))) }
     ensures gains { IfOk result (λ _. Gains (R.seen reader.old) got.old.items (R.seen reader.new) got.new.items) }
-    ensures replies { IfOk result (λ a. a ≡ Awaited.Came → Replies true got.old.items got.new.items) }
+    ensures replies { IfOk result (λ a. (outcome : Outcome) → a ≡ Response.Reply outcome → Replies true outcome got.old.items got.new.items) }
 {
     frames_are_read();
     let mut frames = FrameReader::new(alloc);
     let mut payloads = Vec::new(alloc);
     match await_payloads(reader, got, &mut frames, &mut payloads, 1)? {
         Awaited::Came => (),
-        Awaited::Other => return Ok(Awaited::Other),
-        Awaited::Stopped(stop) => return Ok(Awaited::Stopped(stop)),
+        Awaited::Other => return Ok(Response::Other),
+        Awaited::Stopped(stop) => return Ok(Response::Stopped(stop)),
     }
     if greets_badly(alloc, &payloads)? {
-        return Ok(Awaited::Other);
+        return Ok(Response::Other);
     }
     match await_payloads(reader, got, &mut frames, &mut payloads, 2)? {
         Awaited::Came => (),
-        Awaited::Other => return Ok(Awaited::Other),
-        Awaited::Stopped(stop) => return Ok(Awaited::Stopped(stop)),
+        Awaited::Other => return Ok(Response::Other),
+        Awaited::Stopped(stop) => return Ok(Response::Stopped(stop)),
     }
     let Some((_, replies)) = payloads.split_first() else {
-        return Ok(Awaited::Other);
+        return Ok(Response::Other);
     };
-    if is_sole_result(alloc, &frames, replies)? {
-        return Ok(Awaited::Came);
+    match sole_reply(alloc, &frames, replies)? {
+        Some(outcome) => Ok(Response::Reply(outcome)),
+        None => Ok(Response::Other),
     }
-    Ok(Awaited::Other)
 }
 
 /// Reads until a request is answered, and the greeting before the first one, or no answer can come.
@@ -142,12 +155,12 @@ pub fn await_reply<R: Source>(
     reader: &mut R,
     got: &mut Vec<u8>,
     is_first: bool,
-) -> Result<Awaited, AllocError>
+) -> Result<Response, AllocError>
     requires { HasNotStopped (R.seen reader.old) }
-    ensures goes_on { IfOk result (λ a. stop_of a ≡ None → HasNotStopped (R.seen reader.new)) }
-    ensures cause { IfOk result (λ a. Tells (stop_of a) (StopHasCause (R.seen reader.new) (length got.new.items))) }
+    ensures goes_on { IfOk result (λ a. stop_in a ≡ None → HasNotStopped (R.seen reader.new)) }
+    ensures cause { IfOk result (λ a. Tells (stop_in a) (StopHasCause (R.seen reader.new) (length got.new.items))) }
     ensures gains { IfOk result (λ _. Gains (R.seen reader.old) got.old.items (R.seen reader.new) got.new.items) }
-    ensures replies { IfOk result (λ a. a ≡ Awaited.Came → Replies is_first got.old.items got.new.items) }
+    ensures replies { IfOk result (λ a. (outcome : Outcome) → a ≡ Response.Reply outcome → Replies is_first outcome got.old.items got.new.items) }
 {
     if is_first {
         return await_both(alloc, reader, got);

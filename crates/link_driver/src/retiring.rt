@@ -3,11 +3,14 @@ ghost use Rattle.std.specs.Prelude.{◌≡◌, ◌++◌, ◌∷◌, [], ◌-◌,
 ghost use Rattle.swift_base.specs.Outside.{StarterSeen};
 ghost use Rattle.link_driver.specs.Links.{HasNotStopped, running_seen};
 ghost use Rattle.link_driver.specs.Requests.{Wanted};
+ghost use Rattle.link_driver.specs.LinkTable.{Look};
+ghost use Rattle.link_driver.specs.Told.{HasTable};
 ghost use Rattle.link_driver.specs.Driven.{done_seen, driver_seen, IsSound, RunsFor, IsDriven};
 
 use crate::driver::{Done, Driver};
 use crate::link::{Closed, Running};
 use crate::talk::retire;
+use plugin_frames::{frames_go_on, one_reading};
 use std::alloc::AllocError;
 use swift_base::{Sink, Source};
 
@@ -40,10 +43,14 @@ fn with_retired<W: Sink, R: Source>(
     link: Running<W, R>,
 ) -> Result<Done<W, R>, AllocError>
     requires { HasNotStopped (R.seen link.reader) }
-    ensures { (wanted : List Wanted) (before after : StarterSeen)
+    ensures driven { (wanted : List Wanted) (before after : StarterSeen)
         → IsDriven wanted before (done_seen W.seen R.seen done (Some (running_seen W.seen R.seen link))) after
         → IfOk result (λ next. IsDriven wanted before (done_seen W.seen R.seen next None) after) }
+    ensures table { (table : Look) → HasTable table (done_seen W.seen R.seen done (Some (running_seen W.seen R.seen link)))
+        → IfOk result (λ next. HasTable table (done_seen W.seen R.seen next None)) }
 {
+    frames_go_on();
+    one_reading();
     let closed = retire(link, false)?;
     with_closed(done, closed)
 }
@@ -51,8 +58,10 @@ fn with_retired<W: Sink, R: Source>(
 /// Retires the process that runs, where there is one.
 pub fn stopped<W: Sink, R: Source>(driver: Driver<W, R>) -> Result<Done<W, R>, AllocError>
     requires { IsSound (driver_seen W.seen R.seen driver) }
-    ensures { (wanted : List Wanted) (before after : StarterSeen) → IsDriven wanted before (driver_seen W.seen R.seen driver) after
+    ensures driven { (wanted : List Wanted) (before after : StarterSeen) → IsDriven wanted before (driver_seen W.seen R.seen driver) after
         → IfOk result (λ next. IsDriven wanted before (done_seen W.seen R.seen next None) after) }
+    ensures table { (table : Look) → HasTable table (driver_seen W.seen R.seen driver)
+        → IfOk result (λ next. HasTable table (done_seen W.seen R.seen next None)) }
 {
     let Driver { done, running } = driver;
     match running {
@@ -71,6 +80,8 @@ pub fn keep_for<W: Sink, R: Source>(
     ensures of_module { IfOk result (λ next. RunsFor module_name.now (driver_seen W.seen R.seen next).running) }
     ensures driven { (wanted : List Wanted) (before after : StarterSeen) → IsDriven wanted before (driver_seen W.seen R.seen driver) after
         → IfOk result (λ next. IsDriven wanted before (driver_seen W.seen R.seen next) after) }
+    ensures table { (table : Look) → HasTable table (driver_seen W.seen R.seen driver)
+        → IfOk result (λ next. HasTable table (driver_seen W.seen R.seen next)) }
 {
     let Driver { done, running } = driver;
     let Some(link) = running else {

@@ -4,16 +4,19 @@ ghost use Rattle.swift_base.specs.Outside.{StarterSeen};
 ghost use Rattle.plugin_messages.specs.Writable.{IsRequestWritable};
 ghost use Rattle.link_driver.specs.Links.{HasNotStopped, running_seen};
 ghost use Rattle.link_driver.specs.Requests.{Wanted, wanted_of, bytes_for};
-ghost use Rattle.link_driver.specs.Driven.{done_seen, driver_seen, IsSound, IsDriven};
+ghost use Rattle.link_driver.specs.Driven.{done_seen, driver_seen, IsSound, IsSpent, IsDriven};
 ghost use Rattle.link_driver.specs.Asking.{IsAskedOf};
+ghost use Rattle.link_driver.specs.LinkTable.{Look};
+ghost use Rattle.link_driver.specs.Told.{HasTable, IsPut};
 
-use crate::driver::{Done, Driver};
+use crate::driver::{Asked, Done, Driver};
 use crate::frames::write_for;
 use crate::link::{Running, Unstarted};
 use crate::retiring::with_closed;
+use crate::table::last_outcome;
 use crate::talk::{Answered, ask_process};
-use plugin_frames::{frames_are_read, frames_go_on};
-use plugin_messages::Request;
+use plugin_frames::{frames_are_read, frames_go_on, one_reading};
+use plugin_messages::{Cause, Outcome, Request};
 use std::alloc::{AllocError, Global};
 use swift_base::{Sink, Source, StartFault, Starter};
 use unique_names::Key;
@@ -25,25 +28,32 @@ pub fn ask_running<W: Sink, R: Source>(
     link: Running<W, R>,
     request: &Request,
     is_first: bool,
-) -> Result<Driver<W, R>, AllocError>
+) -> Result<Asked<W, R>, AllocError>
     requires goes_on { HasNotStopped (R.seen link.reader) }
     requires writable { IsRequestWritable request.now }
-    ensures sound { IfOk result (λ next. IsSound (driver_seen W.seen R.seen next)) }
-    ensures asked { IfOk result (λ next. IsAskedOf (done_seen W.seen R.seen done None) (running_seen W.seen R.seen link)
-        request.now.key (bytes_for is_first request.now) is_first (driver_seen W.seen R.seen next)) }
+    ensures sound { IfOk result (λ a. IsSound (driver_seen W.seen R.seen a.driver)) }
+    ensures asked { IfOk result (λ a. IsAskedOf (done_seen W.seen R.seen done None) (running_seen W.seen R.seen link)
+        request.now.key (bytes_for is_first request.now) is_first a.outcome (driver_seen W.seen R.seen a.driver)) }
 {
     let sent = write_for(alloc, request, is_first)?;
     let key = request.key.clone()?;
     match ask_process(alloc, link, key, &sent, is_first)? {
-        Answered::Ready(link) => Ok(Driver {
-            done,
-            running: Some(link),
+        Answered::Ready(link, outcome) => Ok(Asked {
+            driver: Driver {
+                done,
+                running: Some(link),
+            },
+            outcome: Some(outcome),
         }),
         Answered::Retired(link) => {
+            let outcome = last_outcome(alloc, &link)?;
             let done = with_closed(done, link)?;
-            Ok(Driver {
-                done,
-                running: None,
+            Ok(Asked {
+                driver: Driver {
+                    done,
+                    running: None,
+                },
+                outcome,
             })
         }
     }
@@ -98,16 +108,21 @@ pub fn ask_started<P: Starter>(
     starter: &mut P,
     command: &str,
     request: &Request,
-) -> Result<Driver<P::Writer, P::Reader>, AllocError>
+) -> Result<Asked<P::Writer, P::Reader>, AllocError>
     requires { IsRequestWritable request.now }
-    ensures sound { IfOk result (λ next. IsSound (driver_seen P.Writer.seen P.Reader.seen next)) }
+    ensures sound { IfOk result (λ a. IsSound (driver_seen P.Writer.seen P.Reader.seen a.driver)) }
     ensures driven { (wanted : List Wanted) (before : StarterSeen) → 0 < done.room
         → IsDriven wanted before (done_seen P.Writer.seen P.Reader.seen done None) (P.seen starter.old)
-        → IfOk result (λ next. IsDriven (wanted ++ wanted_of command.now request.now ∷ []) before
-        (driver_seen P.Writer.seen P.Reader.seen next) (P.seen starter.new)) }
+        → IfOk result (λ a. IsDriven (wanted ++ wanted_of command.now request.now ∷ []) before
+        (driver_seen P.Writer.seen P.Reader.seen a.driver) (P.seen starter.new)) }
+    ensures table { (table after : Look) → 0 < done.room → HasTable table (done_seen P.Writer.seen P.Reader.seen done None)
+        → table request.now.key ≡ None → IfOk result (λ a. IsPut table request.now.key a.outcome after
+        → HasTable after (driver_seen P.Writer.seen P.Reader.seen a.driver)) }
+    ensures spent { IfOk result (λ a. a.outcome ≡ None → IsSpent (driver_seen P.Writer.seen P.Reader.seen a.driver)) }
 {
     frames_are_read();
     frames_go_on();
+    one_reading();
     let before = starter.faults();
     match starter.start(alloc, command) {
         Ok((writer, reader)) => {
@@ -119,9 +134,12 @@ pub fn ask_started<P: Starter>(
             let after = starter.faults();
             let key = request.key.clone()?;
             let done = with_unstarted(done, Unstarted { key, before, after })?;
-            Ok(Driver {
-                done,
-                running: None,
+            Ok(Asked {
+                driver: Driver {
+                    done,
+                    running: None,
+                },
+                outcome: Some(Outcome::Failed(Cause::NoReply)),
             })
         }
     }

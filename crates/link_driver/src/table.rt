@@ -1,18 +1,14 @@
 // What became of the keys that were asked.
-ghost use Rattle.std.specs.Prelude.{◌≡◌, ◌==◌, ◌&&◌, ◌+◌, ◌^◌, ◌<◌, ◌++◌, ◌∷◌, [], length, map, slice_get, option_map, IfOk};
+ghost use Rattle.std.specs.Prelude.{◌≡◌, ◌==◌, ◌&&◌, ◌+◌, ◌^◌, ◌<◌, length, slice_get, option_map, IfOk};
 ghost use Rattle.plugin_frames.specs.Frames.{Tail, IsFrames};
 ghost use Rattle.plugin_frames.specs.Cutting.{payloads_of};
-ghost use Rattle.swift_base.specs.Outside.{SinkSeen, SourceSeen};
-ghost use Rattle.link_driver.specs.Links.{link_seen};
-ghost use Rattle.link_driver.specs.LinkTable.{no_reply, greets_badly, is_length, is_next, missing_by, replied, outcome_at, each_below, IsLinkTable, decided, AreLinkPairs, IsRunTable};
+ghost use Rattle.link_driver.specs.LinkTable.{greets_badly, is_length, is_next, missing_by, replied, outcome_at, each_below, IsLinkTable, IsLastOutcome};
 
-use crate::link::{Closed, Stop, Unstarted};
+use crate::link::{Closed, Stop};
 use crate::messages::{greets_badly, reply_outcome};
 use plugin_frames::{FrameReader, Refusal as FrameRefusal, frames_are_read};
 use plugin_messages::{Cause, Outcome};
 use std::alloc::{AllocError, Global};
-use swift_base::{Sink, Source};
-use unique_names::Key;
 
 // The payloads that a process gave, and whether a length above the limit stands behind them.
 #[derive(Drop)]
@@ -132,78 +128,23 @@ pub fn link_table<W: Drop, R: Drop>(
     Ok(table)
 }
 
-fn put_outcome(
-    key: &Key,
-    outcome: Option<Outcome>,
-    pairs: &mut Vec<(Key, Outcome)>,
-) -> Result<(), AllocError>
-    ensures { IfOk result (λ _. pairs.new.items ≡ pairs.old.items ++ decided (key.now ∷ []) (outcome ∷ [])) }
-{
-    match outcome {
-        Some(outcome) => {
-            pairs.push((key.clone()?, outcome))?;
-            Ok(())
-        }
-        None => Ok(()),
-    }
-}
-
-fn put_failure(entry: &Unstarted, pairs: &mut Vec<(Key, Outcome)>) -> Result<(), AllocError>
-    ensures { IfOk result (λ _. pairs.new.items ≡ pairs.old.items ++ (entry.now.key, no_reply) ∷ []) }
-{
-    pairs.push((entry.key.clone()?, Outcome::Failed(Cause::NoReply)))?;
-    Ok(())
-}
-
-fn put_failures(unstarted: &[Unstarted], pairs: &mut Vec<(Key, Outcome)>) -> Result<(), AllocError>
-    ensures { IfOk result (λ _. pairs.new.items ≡ pairs.old.items ++ map (λ entry. (entry.key, no_reply)) unstarted.now) }
-{
-    'entries: for entry in unstarted {
-        put_failure(entry, pairs)?;
-    }
-    Ok(())
-}
-
-// Appends the keys of a process that have an outcome, with it.
-fn put_link<W: Drop, R: Drop>(
+/// The outcome of the last key that a process was asked.
+pub(crate) fn last_outcome<W: Drop, R: Drop>(
     alloc: Global,
     link: &Closed<W, R>,
-    pairs: &mut Vec<(Key, Outcome)>,
-) -> Result<(), AllocError>
-    ensures { IfOk result (λ _. (outcomes : _) × IsLinkTable (length link.now.asked.items) link.now.got.items link.now.stop link.now.write_failed outcomes
-        × (pairs.new.items ≡ pairs.old.items ++ decided link.now.asked.items outcomes)) }
+) -> Result<Option<Outcome>, AllocError>
+    requires { 0 < length link.now.asked.items }
+    ensures { IfOk result (λ last. IsLastOutcome (length link.now.asked.items) link.now.got.items link.now.stop link.now.write_failed last) }
 {
     let given = given_in(alloc, &link.got)?;
     let count = link.asked.len();
-    'keys: for number in 0..count {
-        let outcome = outcome_at(alloc, count, &given, link.stop, link.write_failed, number)?;
-        put_outcome(&link.asked[number], outcome, pairs)?;
-    }
-    Ok(())
-}
-
-fn link_pairs<W: Sink, R: Source>(
-    alloc: Global,
-    links: &[Closed<W, R>],
-) -> Result<Vec<(Key, Outcome)>, AllocError>
-    ensures { IfOk result (λ pairs. AreLinkPairs (map (link_seen W.seen R.seen) links.now) pairs.items) }
-{
-    let mut pairs = Vec::new(alloc);
-    'links: for link in links {
-        put_link(alloc, link, &mut pairs)?;
-    }
-    Ok(pairs)
-}
-
-/// The keys that have an outcome, with it: those of each process in order, and then a failure for each failed start.
-pub fn run_table<W: Sink, R: Source>(
-    alloc: Global,
-    links: &[Closed<W, R>],
-    unstarted: &[Unstarted],
-) -> Result<Vec<(Key, Outcome)>, AllocError>
-    ensures { IfOk result (λ pairs. IsRunTable (map (link_seen W.seen R.seen) links.now) unstarted.now pairs.items) }
-{
-    let mut pairs = link_pairs(alloc, links)?;
-    put_failures(unstarted, &mut pairs)?;
-    Ok(pairs)
+    let last = outcome_at(
+        alloc,
+        count,
+        &given,
+        link.stop,
+        link.write_failed,
+        count - 1,
+    )?;
+    Ok(last)
 }

@@ -6,15 +6,16 @@ ghost use Rattle.link_driver.specs.Asking.{IsRetired, IsAnswered};
 
 use crate::link::{Closed, Running, Stop};
 use crate::pieces::read_to_stop;
-use crate::replies::{Awaited, await_reply};
+use crate::replies::{Response, await_reply};
+use plugin_messages::Outcome;
 use std::alloc::{AllocError, Global};
 use swift_base::{Sink, Source, write_all};
 use unique_names::Key;
 
-/// What became of a process that was asked once more.
+/// What became of a process that was asked once more, with the reply where it came.
 #[derive(Drop)]
 pub enum Answered<W: Drop, R: Drop> {
-    Ready(Running<W, R>),
+    Ready(Running<W, R>, Outcome),
     Retired(Closed<W, R>),
 }
 
@@ -98,9 +99,9 @@ pub fn ask_process<W: Sink, R: Source>(
         return Ok(Answered::Retired(retire(link, true)?));
     }
     match await_reply(alloc, &mut link.reader, &mut link.got, is_first)? {
-        Awaited::Came => Ok(Answered::Ready(link)),
-        Awaited::Other => Ok(Answered::Retired(retire(link, false)?)),
-        Awaited::Stopped(stop) => {
+        Response::Reply(outcome) => Ok(Answered::Ready(link, outcome)),
+        Response::Other => Ok(Answered::Retired(retire(link, false)?)),
+        Response::Stopped(stop) => {
             close(&mut link.writer);
             Ok(Answered::Retired(closed(link, false, stop)))
         }

@@ -4,7 +4,7 @@ ghost use Rattle.std.specs.Str.{IsUtf8};
 ghost use Rattle.plugin_messages.specs.Writable.{IsMacroWritable, IsSyntaxWritable, IsRequestWritable};
 ghost use Rattle.link_driver.specs.Driven.{driver_seen, IsSound};
 
-use crate::{Closed, Driver, Ran, Stop, ask, finish, link_table, run_table};
+use crate::{Closed, Driver, Ran, Stop, ask, finish, is_spent, link_table};
 use plugin_messages::{MacroRef, Outcome, Parts, Request, Syntax, SyntaxKind};
 use std::alloc::{AllocError, Global};
 use std::process::Abort;
@@ -91,20 +91,40 @@ fn script(alloc: Global, gives: &[&str], sizes: &[u32]) -> Result<MemScript, All
     })
 }
 
+// `r` for a reply, `f` for a failure, `-` for none.
+fn letter(outcome: &Option<Outcome>) -> u8 {
+    match outcome {
+        Some(Outcome::Reply { .. }) => b'r',
+        Some(Outcome::Failed(_)) => b'f',
+        None => b'-',
+    }
+}
+
+// What was done, and one letter a request: what was told of it at once.
+#[derive(Drop)]
+struct Tried<W: Drop, R: Drop> {
+    done: Ran<W, R>,
+    told: Vec<u8>,
+}
+
 // Asks these modules, one after another, for the uses at 0, 1 and so on.
 fn run<P: Starter>(
     alloc: Global,
     starter: &mut P,
     modules: &[&str],
-) -> Result<Ran<P::Writer, P::Reader>, AllocError> {
+) -> Result<Tried<P::Writer, P::Reader>, AllocError> {
     let mut driver = Driver::new(alloc);
+    let mut told = Vec::new(alloc);
     let mut offset = 0u32;
     'modules: for module in modules {
         let request = request(alloc, module, offset)?;
-        driver = ask(alloc, driver, starter, "plug", &request)?;
+        let asked = ask(alloc, driver, starter, "plug", &request)?;
+        told.push(letter(&asked.outcome))?;
+        driver = asked.driver;
         offset = offset.wrapping_add(1);
     }
-    finish(driver)
+    let done = finish(driver)?;
+    Ok(Tried { done, told })
 }
 
 // The same of processes that give these texts; the starts in `failing` fail.
@@ -114,7 +134,7 @@ fn run_on(
     sizes: &[u32],
     failing: &[u64],
     modules: &[&str],
-) -> Result<Ran<MemSink, MemSource>, AllocError> {
+) -> Result<Tried<MemSink, MemSource>, AllocError> {
     let mut scripts = Vec::new(alloc);
     for parts in gives {
         scripts.push(script(alloc, parts, sizes)?)?;
@@ -123,16 +143,12 @@ fn run_on(
     run(alloc, &mut starter, modules)
 }
 
-// One letter a key: `r` for a reply, `f` for a failure, `-` for none; a `|` after each process.
+// One letter a key; a `|` after each process.
 fn letters(alloc: Global, links: &[Closed<MemSink, MemSource>]) -> Result<Vec<u8>, AllocError> {
     let mut letters = Vec::new(alloc);
     for link in links {
         for outcome in link_table(alloc, link)? {
-            letters.push(match outcome {
-                Some(Outcome::Reply { .. }) => b'r',
-                Some(Outcome::Failed(_)) => b'f',
-                None => b'-',
-            })?;
+            letters.push(letter(&outcome))?;
         }
         letters.push(b'|')?;
     }
@@ -142,11 +158,11 @@ fn letters(alloc: Global, links: &[Closed<MemSink, MemSource>]) -> Result<Vec<u8
 fn expect(
     rt: &impl Abort,
     alloc: Global,
-    ran: &Ran<MemSink, MemSource>,
+    ran: &Tried<MemSink, MemSource>,
     wanted: &[u8],
 ) -> Result<(), AllocError> {
-    assert_eq!(rt; letters(alloc, &ran.links)?.as_slice(), wanted);
-    for link in &ran.links {
+    assert_eq!(rt; letters(alloc, &ran.done.links)?.as_slice(), wanted);
+    for link in &ran.done.links {
         assert_eq!(rt; link.stop, Stop::Ended);
         assert!(rt; !link.write_failed);
     }
@@ -173,10 +189,9 @@ fn two_requests_of_one_process(rt: HostRuntime) -> Result<(), Fail> {
     )?;
     expect(&rt, alloc, &ran, b"rr|".as_slice())?;
     let sent = sent(alloc)?;
-    assert_eq!(rt; ran.links.len(), 1);
-    assert_eq!(rt; ran.links[0].writer.held(), sent.as_slice());
-    assert_eq!(rt; ran.links[0].got.len(), 206);
-    assert_eq!(rt; run_table(alloc, &ran.links, &ran.unstarted)?.len(), 2);
+    assert_eq!(rt; ran.done.links.len(), 1);
+    assert_eq!(rt; ran.done.links[0].writer.held(), sent.as_slice());
+    assert_eq!(rt; ran.done.links[0].got.len(), 206);
     Ok(())
 }
 
@@ -235,12 +250,14 @@ fn failed_start(rt: HostRuntime) -> Result<(), Fail> {
     let alloc = rt.alloc();
     let ran = run_on(alloc, &[&[GREETED, REPLIED]], &[], &[0], &["M", "M"])?;
     expect(&rt, alloc, &ran, b"r|".as_slice())?;
-    assert_eq!(rt; ran.unstarted.len(), 1);
-    assert_eq!(rt; (ran.unstarted[0].before, ran.unstarted[0].after), (0, 1));
-    for step in &ran.unstarted[0].key.steps {
+    assert_eq!(rt; ran.done.unstarted.len(), 1);
+    assert_eq!(rt;
+        (ran.done.unstarted[0].before, ran.done.unstarted[0].after),
+        (0, 1)
+    );
+    for step in &ran.done.unstarted[0].key.steps {
         assert_eq!(rt; step.offset, 0);
     }
-    assert_eq!(rt; run_table(alloc, &ran.links, &ran.unstarted)?.len(), 2);
     Ok(())
 }
 
@@ -254,7 +271,26 @@ fn another_module(rt: HostRuntime) -> Result<(), Fail> {
     ];
     let ran = run_on(alloc, &gives, &[], &[], &["M", "N", "M"])?;
     expect(&rt, alloc, &ran, b"r|r|r|".as_slice())?;
-    assert_eq!(rt; ran.links.len(), 3);
-    assert_eq!(rt; ran.links[1].module_name.bytes(), b"N".as_slice());
+    assert_eq!(rt; ran.done.links.len(), 3);
+    assert_eq!(rt; ran.done.links[1].module_name.bytes(), b"N".as_slice());
+    Ok(())
+}
+
+#[test]
+fn outcomes_are_told_at_once(rt: HostRuntime) -> Result<(), Fail> {
+    let alloc = rt.alloc();
+    let sizes = [68, 69, 68];
+    let gives: [&[&str]; 1] = [&[GREETED, REPLIED, LOADED]];
+    let ran = run_on(alloc, &gives, &sizes, &[1], &["M", "M", "M"])?;
+    assert_eq!(rt; ran.told.as_slice(), b"rff".as_slice());
+    expect(&rt, alloc, &ran, b"rf|".as_slice())?;
+    assert_eq!(rt; ran.done.unstarted.len(), 1);
+    Ok(())
+}
+
+#[test]
+fn nothing_is_spent_at_first(rt: HostRuntime) -> Result<(), Fail> {
+    let driver: Driver<MemSink, MemSource> = Driver::new(rt.alloc());
+    assert!(rt; !is_spent(&driver));
     Ok(())
 }

@@ -1,5 +1,5 @@
 // The table of macros by their names.
-ghost use Rattle.std.specs.Prelude.{◌≡◌, ◌++◌, ◌<◌, ◌^◌, ◌∷◌, [], IfOk, None, OnOk, filter_map, length, map, option_map};
+ghost use Rattle.std.specs.Prelude.{◌≡◌, ◌++◌, ◌<◌, ◌^◌, ◌∷◌, [], IfOk, None, OnOk, filter_map, length, map, option_map, slice_get};
 ghost use Rattle.std.specs.List.{All};
 ghost use Rattle.std.specs.Option.{option_copied};
 ghost use Rattle.swift_tree.specs.Outlines.{outline_of};
@@ -66,6 +66,14 @@ impl MacroTable {
         ensures readable { IfOk result (λ table. All IsDeclReadable table) }
     {
         macros(alloc, outlines)
+    }
+
+    /// The declaration with this number, from 0.
+    pub fn at(&self, index: usize) -> Option<&MacroDecl>
+        ensures { option_copied result ≡ slice_get self.now index }
+    {
+        let (_, declared) = self.declarations.get_index(index)?;
+        Some(declared)
     }
 
     /// The declaration of a name.

@@ -1,12 +1,12 @@
-// Edits of a text.
-ghost use Rattle.std.specs.Prelude.{◌≡◌, ◌++◌, IfOk, length, slice_range};
-ghost use Rattle.result_splice.specs.Edits.{CanBeMade, IsEdited, edited};
+// Edits of a text, and their order.
+ghost use Rattle.std.specs.Prelude.{◌≡◌, IfOk};
+ghost use Rattle.result_splice.specs.Edits.{rank, ordered};
 
-use crate::slices::{behind, between};
-use std::alloc::{AllocError, Global};
+use std::alloc::AllocError;
 use swift_base::Text;
 
 /// Bytes in the place of those from `start` to `end`, offsets in bytes from 0, `end` exclusive.
+/// Where the two are equal, the bytes are put in there.
 #[derive(Debug, Drop)]
 pub struct Edit {
     pub start: u32,
@@ -14,35 +14,21 @@ pub struct Edit {
     pub bytes: Text,
 }
 
-/// The text with the edits made, which may be in any order.
-pub fn apply(alloc: Global, text: &[u8], edits: Vec<Edit>) -> Result<Vec<u8>, AllocError>
-    requires { CanBeMade (length text.now) edits.items }
-    ensures { IfOk result (λ bytes. IsEdited text.now edits.items bytes.items) }
+pub(crate) fn in_order(edits: Vec<Edit>) -> Result<Vec<Edit>, AllocError>
+    ensures { IfOk result (λ sorted. sorted.items ≡ ordered edits.items) }
 {
-    let mut in_order = edits;
-    in_order.sort_by_key(|edit| edit.start)?;
-    edited(alloc, text, &in_order)
+    let mut sorted = edits;
+    sorted.sort_by_key(|edit| rank(edit))?;
+    Ok(sorted)
 }
 
-// The text with edits that stand one behind the other.
-fn edited(alloc: Global, text: &[u8], edits: &[Edit]) -> Result<Vec<u8>, AllocError>
-    ensures { IfOk result (λ bytes. bytes.items ≡ edited text.now 0 edits.now) }
+fn rank(edit: &Edit) -> u64
+    ensures { result ≡ rank edit.now }
 {
-    let mut bytes = Vec::with_capacity(alloc, text.len())?;
-    let mut from = 0;
-    'edits: for edit in edits {
-        put_edit(text, from, edit, &mut bytes)?;
-        from = edit.end;
+    let begins = 2 * u64::from(edit.start);
+    if edit.start == edit.end {
+        begins
+    } else {
+        begins + 1
     }
-    bytes.extend_from_slice(behind(text, from as usize))?;
-    Ok(bytes)
-}
-
-// What stands before the edit, and then the edit's bytes.
-fn put_edit(text: &[u8], from: u32, edit: &Edit, bytes: &mut Vec<u8>) -> Result<(), AllocError>
-    ensures { IfOk result (λ _. bytes.new.items ≡ bytes.old.items ++ (slice_range text.now from edit.now.start ++ edit.now.bytes)) }
-{
-    bytes.extend_from_slice(between(text, from as usize, edit.start as usize))?;
-    bytes.extend_from_slice(edit.bytes.bytes())?;
-    Ok(())
 }

@@ -11,7 +11,7 @@ fn front(text: &[u8], n: usize) -> &[u8]
     text
 }
 
-pub fn behind(text: &[u8], n: usize) -> &[u8]
+fn behind(text: &[u8], n: usize) -> &[u8]
     ensures { result.now ≡ drop n text.now }
 {
     let (_, behind) = text.split_at(n.min(text.len()));

@@ -1,6 +1,6 @@
 use Rattle.std.proofs.Common.{sym, ◌∙◌}
-use Rattle.link_driver.proofs.Runs.{runs_ask_once, stops_have_causes, runs_give_links, runs_start_as_wanted, failed_starts_have_causes}
-use Rattle.expand_top.proofs.Promises.{keeps_bytes, status_has_cause, none_some, links_served}
+use Rattle.link_driver.proofs.Runs.{stops_have_causes, failed_starts_have_causes}
+use Rattle.expand_top.proofs.Promises.{asked_once, starts_are_of, keeps_bytes, status_has_cause, none_some, links_served}
 use Rattle.expand_top.proofs.driver.run.Goals as goal
 
 pub returns-clause-output : goal.returns-clause-output
@@ -11,7 +11,7 @@ returns-in_default-clause-output g c = λ name macros plugins is. absurd (none_s
 
 pub returns-clause-asked_once : goal.returns-clause-asked_once
 returns-clause-asked_once g c = λ name macros plugins is ok.
-    let done = c.run_named.ensures.expanded name macros plugins (sym c.in-Some.ensures.some ∙ is) ok in runs_ask_once _ _ _ _ _ done.expands.asks
+    let done = c.run_named.ensures.expanded name macros plugins (sym c.in-Some.ensures.some ∙ is) ok in asked_once macros name plugins _ _ done.output done.expands
 
 pub returns-in_default-clause-asked_once : goal.returns-in_default-clause-asked_once
 returns-in_default-clause-asked_once g c = λ name macros plugins is. absurd (none_some _ (sym c.in_default.ensures.none ∙ is))
@@ -25,21 +25,21 @@ returns-in_default-clause-links_serve g c = λ name macros plugins is. absurd (n
 
 pub returns-clause-started : goal.returns-clause-started
 returns-clause-started g c = λ name macros plugins is ok.
-    let done = c.run_named.ensures.expanded name macros plugins (sym c.in-Some.ensures.some ∙ is) ok in record { links = runs_give_links _ _ _ _ _ done.expands.asks; commands = runs_start_as_wanted _ _ _ _ _ done.expands.asks }
+    let done = c.run_named.ensures.expanded name macros plugins (sym c.in-Some.ensures.some ∙ is) ok in starts_are_of macros name plugins _ _ done.output done.expands
 
 pub returns-in_default-clause-started : goal.returns-in_default-clause-started
 returns-in_default-clause-started g c = λ name macros plugins is. absurd (none_some _ (sym c.in_default.ensures.none ∙ is))
 
 pub returns-clause-stops : goal.returns-clause-stops
 returns-clause-stops g c = λ name macros plugins is ok.
-    let done = c.run_named.ensures.expanded name macros plugins (sym c.in-Some.ensures.some ∙ is) ok in stops_have_causes _ _ _ _ _ done.expands.asks
+    let done = c.run_named.ensures.expanded name macros plugins (sym c.in-Some.ensures.some ∙ is) ok in stops_have_causes _ _ _ _ _ done.expands.asks.ran
 
 pub returns-in_default-clause-stops : goal.returns-in_default-clause-stops
 returns-in_default-clause-stops g c = λ name macros plugins is. absurd (none_some _ (sym c.in_default.ensures.none ∙ is))
 
 pub returns-clause-failed_starts : goal.returns-clause-failed_starts
 returns-clause-failed_starts g c = λ name macros plugins is ok.
-    let done = c.run_named.ensures.expanded name macros plugins (sym c.in-Some.ensures.some ∙ is) ok in failed_starts_have_causes _ _ _ _ _ done.expands.asks
+    let done = c.run_named.ensures.expanded name macros plugins (sym c.in-Some.ensures.some ∙ is) ok in failed_starts_have_causes _ _ _ _ _ done.expands.asks.ran
 
 pub returns-in_default-clause-failed_starts : goal.returns-in_default-clause-failed_starts
 returns-in_default-clause-failed_starts g c = λ name macros plugins is. absurd (none_some _ (sym c.in_default.ensures.none ∙ is))

@@ -5,13 +5,26 @@ use Rattle.link_driver.specs.Links.{link_seen, running_seen}
 use Rattle.link_driver.proofs.Turns.{retired, same_seen}
 use Rattle.link_driver.proofs.Written.{by_three}
 use Rattle.link_driver.proofs.retiring.with_retired.Goals as goal
+use Rattle.link_driver.specs.Told.{HasTable}
+use Rattle.link_driver.proofs.Tables.{retired_table}
 
-pub returns : goal.returns
-returns g c = λ wanted before after driven.
+pub returns-clause-driven : goal.returns-clause-driven
+returns-clause-driven g c = λ wanted before after driven.
     let seen = link_seen g.W.Sink.seen g.R.Source.seen in
     let done = done_seen g.W.Sink.seen g.R.Source.seen c.args.done None in
     by_three c.with_closed.result _ _ _ _
     (λ next closed unstarted room. subst (λ (d : DriverSeen). IsDriven wanted before d after)
     (sym (same_seen _ _ (ap (map seen) closed ∙ map-append seen _ _) unstarted room refl))
     (retired wanted before after done (running_seen g.W.Sink.seen g.R.Source.seen c.args.link) (seen c.in_ok-closed.closed) c.in_ok-closed.ensures driven))
+    c.with_closed.ensures.closed c.with_closed.ensures.unstarted c.with_closed.ensures.room
+
+pub returns-clause-table : goal.returns-clause-table
+returns-clause-table g c = λ table has.
+    let seen = link_seen g.W.Sink.seen g.R.Source.seen in
+    let done = done_seen g.W.Sink.seen g.R.Source.seen c.args.done None in
+    by_three c.with_closed.result _ _ _ _
+    (λ next closed unstarted room. subst (λ (d : DriverSeen). HasTable table d)
+    (sym (same_seen _ _ (ap (map seen) closed ∙ map-append seen _ _) unstarted room refl))
+    (retired_table table done (running_seen g.W.Sink.seen g.R.Source.seen c.args.link) (seen c.in_ok-closed.closed) c.one_reading.ensures.some
+    c.one_reading.ensures.one c.frames_go_on.ensures.rest c.in_ok-closed.ensures has))
     c.with_closed.ensures.closed c.with_closed.ensures.unstarted c.with_closed.ensures.room

@@ -11,6 +11,6 @@ returns-in-Stopped g c =
       module_name = refl;
       asked = c.in_ok-push.ensures.items;
       written = λ bytes holds. c.close.ensures bytes c.args.sent.now _ (c.if-write.ensures bytes holds);
-      stopped = rw c.in-Stopped.is at c.in_ok-await_reply.ensures.cause;
-      gains = c.in_ok-await_reply.ensures.gains;
+      stopped = rw c.in-Stopped.is at c.in_ok-outcome.ensures.cause;
+      gains = c.in_ok-outcome.ensures.gains;
     })

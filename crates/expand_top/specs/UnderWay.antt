@@ -1,0 +1,34 @@
+-- A run that is under way. This project's own.
+use Rattle.std.specs.Prelude.{◌≡◌, ℕ, List, All, map}
+use Rattle.swift_base.specs.Outside.{StarterSeen}
+use Rattle.swift_base.specs.declared.plugins.Plugin.{Plugin}
+use Rattle.plugin_messages.specs.declared.request.Request.{Request}
+use Rattle.macro_decls.specs.declared.table.MacroDecl.{MacroDecl}
+use Rattle.expansion_model.specs.Buffers.{BufferSeen}
+use Rattle.expansion_model.specs.Visit.{visit}
+use Rattle.link_driver.specs.Driven.{DriverSeen, IsDriven}
+use Rattle.link_driver.specs.Requests.{Wanted, key_of}
+use Rattle.link_driver.specs.Told.{HasTable}
+use Rattle.expansion_model.specs.Answer.{answer_of}
+use Rattle.expansion_model.specs.declared.answer.Answer.{Answer}
+use Rattle.link_driver.specs.LinkTable.{Look, IsRunTable}
+use Rattle.expand_top.specs.Asking.{Asking, AreDifferent, IsAskedOf, IsOneOf}
+
+-- what is asked for a source with a table
+abbrev pub asked_with : List MacroDecl → List Plugin → BufferSeen → Look → List Request
+asked_with macros plugins source table = (visit macros plugins table source).asked
+
+-- What was done so far: requests that the table so far asks, each once, and the outcomes are the table's.
+pub record IsUnderWay (macros : List MacroDecl) (plugins : List Plugin) (source : BufferSeen) (before : StarterSeen) (driver : DriverSeen) (table : Look) (after : StarterSeen) : Type 0 where
+  pub wanted : List Wanted
+  pub driven : IsDriven wanted before driver after
+  pub tells : HasTable table driver
+  pub each : All (IsOneOf plugins (asked_with macros plugins source table)) wanted
+  pub different : AreDifferent (map key_of wanted)
+
+-- What was asked for a source, and the answer by its table.
+pub record IsAnswered (macros : List MacroDecl) (plugins : List Plugin) (source : BufferSeen) (asking : Asking) (answer : Answer) : Type 0 where
+  pub table : Look
+  pub is_table : IsRunTable table asking.links asking.unstarted
+  pub asks : IsAskedOf plugins (asked_with macros plugins source table) asking
+  pub answers : answer ≡ answer_of macros plugins table source

@@ -1,0 +1,4 @@
+pub mod Fit
+pub mod Laws
+pub mod Names
+pub mod Reading
