@@ -376,12 +376,16 @@ pub asked_once : (file : Option (List ℕ)) (name : List ℕ) (plugins : List Pl
 asked_once file name plugins inputs asking output is =
     let means = meaning_of file name inputs in
     let asked = asked_in name plugins means is.table in
-    let keys = asked_keys asking.links asking.unstarted in
-    (is.table, is.is_table, record {
-      different = keys_differ plugins asked asking is.asks;
-      of_source = key_is_of plugins asked asking is.asks;
-      all = λ unlimited request among. elim (none_or_more (times request.key keys)) [
-        | inl none_ ↦ absurd (missing_has is.table asked (complete name plugins means is.table unlimited) request among (is.is_table.no_others request.key (λ has. none_ (counted request.key keys has))))
-        | inr some ↦ stands request.key keys some
-      ];
-    })
+    let keys = asked_keys asking.links asking.unstarted in (
+      is.table,
+      is.is_table,
+      record {
+        different = keys_differ plugins asked asking is.asks;
+        of_source = key_is_of plugins asked asking is.asks;
+        all = λ unlimited request among. elim (none_or_more (times request.key keys)) [
+          | inl none_ ↦ absurd (missing_has is.table asked (complete name plugins means is.table unlimited) request among (is.is_table.no_others request.key (λ has. none_ (counted request.key keys has))))
+          | inr some ↦ stands request.key keys some
+        ];
+        spent = is.spent;
+      },
+    )

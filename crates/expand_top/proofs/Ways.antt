@@ -52,7 +52,7 @@ module _ (macros : List MacroDecl) (plugins : List Plugin) (source : BufferSeen)
       | inl spent ↦ goes_on spent
       | inr decided ↦
           decided key (contains_permuted (driver_keys driver) (map key_of way.wanted) key
-              (IsPermutation-sym (map key_of way.wanted) (driver_keys driver) (wanted_is_told way.wanted before driver after way.driven goes_on)) has) missing
+          (IsPermutation-sym (map key_of way.wanted) (driver_keys driver) (wanted_is_told way.wanted before driver after way.driven goes_on)) has) missing
     ]
 
     pub one_further : (request : Request) (next : DriverSeen) (wider : Look) (end : StarterSeen) → Contains (asked_with macros plugins source table) request → table request.key ≡ None → IsWithin table wider

@@ -1,5 +1,5 @@
 -- What is asked for a source, and what is written for it. This project's own.
-use Rattle.std.specs.Prelude.{◌≡◌, ℕ, ◌≤◌, Bool, true, false, List, [], All, map, sum_by}
+use Rattle.std.specs.Prelude.{◌≡◌, ℕ, ◌<◌, ◌≤◌, Bool, true, false, List, [], All, map, sum_by}
 use Rattle.std.specs.Cmp.Lexicographic.{pointwise}
 use Rattle.std.specs.List.{Contains}
 use Rattle.std.specs.Option.{option_map_or}
@@ -14,10 +14,13 @@ use Rattle.expansion_model.specs.Macros.{plugin_for}
 use Rattle.expansion_model.specs.Visit.{visit}
 use Rattle.expansion_model.specs.declared.answer.Answer.{Answer}
 use Rattle.expansion_model.specs.declared.answer.Answer.TheVariants as answer
+use Rattle.expansion_model.specs.declared.answer.LimitKind.TheVariants as limit
+use Rattle.link_driver.specs.Driven.{bytes_of}
 use Rattle.link_driver.specs.Links.{KeySteps, LinkSeen}
-use Rattle.link_driver.specs.LinkTable.{Look, IsRunTable}
+use Rattle.link_driver.specs.LinkTable.{Look, IsRunTable, asked_keys}
 use Rattle.link_driver.specs.Ran.{HasRun}
 use Rattle.link_driver.specs.Requests.{Wanted, wanted_of, key_of}
+use Rattle.link_driver.specs.declared.link.TheConstants.{MOST_BYTES}
 use Rattle.link_driver.specs.declared.link.Unstarted.{Unstarted}
 use Rattle.expand_top.specs.Answers.{output_of}
 use Rattle.expand_top.specs.Lines.{Output}
@@ -55,6 +58,17 @@ abbrev pub is_limited : List ℕ → List Plugin → Meaning → Look → Bool
 is_limited name plugins (Refused refusal) table = false
 is_limited name plugins (Means source macros) table = is_limit (answer_of macros plugins table (source_buffer name source))
 
+-- the answer is the limit of bytes
+abbrev pub is_limit_of_bytes : Answer → Bool
+is_limit_of_bytes (answer.Limit limit.Bytes) = true
+is_limit_of_bytes (answer.Limit limit.Requests) = false
+is_limit_of_bytes (answer.File bytes) = false
+is_limit_of_bytes (answer.Faults messages) = false
+
+abbrev pub ends_by_bytes : List ℕ → List Plugin → Meaning → Look → Bool
+ends_by_bytes name plugins (Refused refusal) table = false
+ends_by_bytes name plugins (Means source macros) table = is_limit_of_bytes (answer_of macros plugins table (source_buffer name source))
+
 -- What was asked: the processes and the failed starts that are handed back, and the starter before and after.
 pub record Asking : Type 0 where
   pub links : List LinkSeen
@@ -64,6 +78,10 @@ pub record Asking : Type 0 where
 
 abbrev pub asking_of : List LinkSeen → List Unstarted → StarterSeen → StarterSeen → Asking
 asking_of links unstarted before after = record { links = links; unstarted = unstarted; before = before; after = after }
+
+-- the keys that were asked
+abbrev pub keys_of : Asking → List KeySteps
+keys_of asking = asked_keys asking.links asking.unstarted
 
 -- one of the requests, with the command of its module
 pub record IsOneOf (plugins : List Plugin) (asked : List Request) (wanted : Wanted) : Type 0 where
@@ -90,9 +108,11 @@ pub record IsAskedOf (plugins : List Plugin) (asked : List Request) (asking : As
   pub each : All (IsOneOf plugins asked) wanted
   pub different : AreDifferent (map key_of wanted)
 
--- What is asked and written for what the files mean: both by the table of what was asked.
+-- What is asked and written for what the files mean: both by the table of what was asked. The limit of bytes is met only
+-- where the processes gave more.
 pub record IsExpansion (name : List ℕ) (plugins : List Plugin) (means : Meaning) (asking : Asking) (output : Output) : Type 0 where
   pub table : Look
   pub is_table : IsRunTable table asking.links asking.unstarted
   pub asks : IsAskedOf plugins (asked_in name plugins means table) asking
   pub writes : output ≡ output_in name plugins means table
+  pub spent : ends_by_bytes name plugins means table ≡ true → MOST_BYTES < bytes_of asking.links

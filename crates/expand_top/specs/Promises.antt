@@ -1,5 +1,5 @@
 -- What a run promises of a source, promise by promise. This project's own.
-use Rattle.std.specs.Prelude.{◌≡◌, ◌⊎◌, ℕ, ◌<◌, ◌++◌, Bool, false, Option, List, [], ◌∷◌, All, map}
+use Rattle.std.specs.Prelude.{◌≡◌, ◌⊎◌, ℕ, ◌<◌, ◌++◌, Bool, true, false, Option, List, [], ◌∷◌, All, map}
 use Rattle.std.specs.List.{Contains}
 use Rattle.swift_base.specs.Told.{then_bytes, Rose}
 use Rattle.swift_base.specs.Outside.{SinkSeen, FilesSeen}
@@ -11,15 +11,16 @@ use Rattle.expansion_model.specs.Buffers.{source_buffer}
 use Rattle.expansion_model.specs.BufferSites.{buffer_sites}
 use Rattle.expansion_model.specs.Laws.{replaced}
 use Rattle.expansion_model.specs.Spans.{spans_of}
-use Rattle.link_driver.specs.Driven.{IsProcess}
+use Rattle.link_driver.specs.Driven.{IsProcess, bytes_of}
+use Rattle.link_driver.specs.declared.link.TheConstants.{MOST_BYTES}
 use Rattle.link_driver.specs.Laws.{HasRepliesButLast, GaveLinks, StartsAsWanted, FailedBetween, HasCause}
 use Rattle.link_driver.specs.Links.{KeySteps, LinkSeen}
-use Rattle.link_driver.specs.LinkTable.{Look, IsTableOf, IsRunTable, asked_keys}
+use Rattle.link_driver.specs.LinkTable.{Look, IsTableOf, IsRunTable}
 use Rattle.link_driver.specs.Lists.{Each}
 use Rattle.link_driver.specs.Requests.{Wanted}
 use Rattle.result_splice.specs.Edits.{IsEdited}
 use Rattle.result_splice.specs.declared.edit.Edit.{Edit}
-use Rattle.expand_top.specs.Asking.{Asking, AreDifferent, IsOneOf, asked_in, is_limited}
+use Rattle.expand_top.specs.Asking.{Asking, AreDifferent, IsOneOf, asked_in, ends_by_bytes, is_limited, keys_of}
 use Rattle.expand_top.specs.Meaning.{Meaning, Refused, Means, meaning_of}
 use Rattle.expand_top.specs.declared.ended.Inputs.{Inputs}
 
@@ -27,17 +28,20 @@ use Rattle.expand_top.specs.declared.ended.Inputs.{Inputs}
 abbrev pub RepliesInOrder : LinkSeen → Type 0
 RepliesInOrder link = (outcomes : List (Option Outcome)) → IsTableOf link outcomes → HasRepliesButLast outcomes
 
--- Requests of the list were asked, each at most once and no other; where no limit was met, all of them.
-pub record AsksOnce (asked : List Request) (limited : Bool) (keys : List KeySteps) : Type 0 where
-  pub different : AreDifferent keys
-  pub of_source : (key : KeySteps) → Contains keys key → (request : Request) × Contains asked request × (request.key ≡ key)
-  pub all : limited ≡ false → (request : Request) → Contains asked request → Contains keys request.key
+-- Requests of the list were asked, each at most once and no other; where no limit was met, all of them. The limit of
+-- bytes is met only where the processes gave more.
+pub record AsksOnce (asked : List Request) (limited by_bytes : Bool) (asking : Asking) : Type 0 where
+  pub different : AreDifferent (keys_of asking)
+  pub of_source : (key : KeySteps) → Contains (keys_of asking) key → (request : Request) × Contains asked request × (request.key ≡ key)
+  pub all : limited ≡ false → (request : Request) → Contains asked request → Contains (keys_of asking) request.key
+  pub spent : by_bytes ≡ true → MOST_BYTES < bytes_of asking.links
 
 -- Each request that the table asks of the source was asked once, and no other was.
 abbrev pub AskedOnce : Option (List ℕ) → List ℕ → List Plugin → Inputs → Asking → Type 0
 AskedOnce macros name plugins inputs asking =
     let means = meaning_of macros name inputs in
-    (table : Look) × IsRunTable table asking.links asking.unstarted × AsksOnce (asked_in name plugins means table) (is_limited name plugins means table) (asked_keys asking.links asking.unstarted)
+    (table : Look) × IsRunTable table asking.links asking.unstarted
+    × AsksOnce (asked_in name plugins means table) (is_limited name plugins means table) (ends_by_bytes name plugins means table) asking
 
 -- A process that was asked requests of the list, all of its own module, and was given their frames.
 pub record IsServedOf (plugins : List Plugin) (asked : List Request) (link : LinkSeen) : Type 0 where

@@ -1,16 +1,19 @@
 -- A run that is under way. This project's own.
-use Rattle.std.specs.Prelude.{◌≡◌, ℕ, List, All, map}
+use Rattle.std.specs.Prelude.{◌≡◌, ◌<◌, ℕ, List, All, map}
 use Rattle.swift_base.specs.Outside.{StarterSeen}
 use Rattle.swift_base.specs.declared.plugins.Plugin.{Plugin}
 use Rattle.plugin_messages.specs.declared.request.Request.{Request}
 use Rattle.macro_decls.specs.declared.table.MacroDecl.{MacroDecl}
 use Rattle.expansion_model.specs.Buffers.{BufferSeen}
 use Rattle.expansion_model.specs.Visit.{visit}
-use Rattle.link_driver.specs.Driven.{DriverSeen, IsDriven}
+use Rattle.link_driver.specs.Driven.{DriverSeen, IsDriven, bytes_of}
+use Rattle.link_driver.specs.declared.link.TheConstants.{MOST_BYTES}
 use Rattle.link_driver.specs.Requests.{Wanted, key_of}
 use Rattle.link_driver.specs.Told.{HasTable}
 use Rattle.expansion_model.specs.Answer.{answer_of}
 use Rattle.expansion_model.specs.declared.answer.Answer.{Answer}
+use Rattle.expansion_model.specs.declared.answer.Answer.TheVariants as answers
+use Rattle.expansion_model.specs.declared.answer.LimitKind.TheVariants as limits
 use Rattle.link_driver.specs.LinkTable.{Look, IsRunTable}
 use Rattle.expand_top.specs.Asking.{Asking, AreDifferent, IsAskedOf, IsOneOf}
 
@@ -32,3 +35,4 @@ pub record IsAnswered (macros : List MacroDecl) (plugins : List Plugin) (source 
   pub is_table : IsRunTable table asking.links asking.unstarted
   pub asks : IsAskedOf plugins (asked_with macros plugins source table) asking
   pub answers : answer ≡ answer_of macros plugins table source
+  pub spent : answer ≡ answers.Limit limits.Bytes → MOST_BYTES < bytes_of asking.links

@@ -6,6 +6,8 @@ ghost use Rattle.swift_base.specs.declared.plugins.Plugin.{Plugin};
 ghost use Rattle.macro_decls.specs.Macros.{IsDeclReadable};
 ghost use Rattle.macro_decls.specs.declared.table.MacroDecl.{MacroDecl};
 ghost use Rattle.expansion_model.specs.Answer.{answer_of};
+ghost use Rattle.expansion_model.specs.declared.answer.Answer.TheVariants as answers;
+ghost use Rattle.expansion_model.specs.declared.answer.LimitKind.TheVariants as limits;
 ghost use Rattle.expansion_model.specs.Buffers.{BufferSeen, IsSound, buffer_seen};
 ghost use Rattle.expansion_model.specs.Table.{IsWithin, look};
 ghost use Rattle.plugin_messages.specs.Writable.{IsRequestWritable};
@@ -18,8 +20,8 @@ ghost use Rattle.expand_top.specs.Asking.{IsStartable, asking_of, command_for};
 ghost use Rattle.expand_top.specs.UnderWay.{asked_with, IsAnswered, IsUnderWay};
 
 use expansion_model::{
-    Answer, Buffer, LimitKind, MOST_REQUESTS, Step, Table, asked_requests_grow, expand_with,
-    plugin_for, requests_are_writable,
+    Answer, Buffer, LimitKind, MOST_REQUESTS, Step, Table, expand_with, plugin_for,
+    requests_are_writable,
 };
 use link_driver::{Asked, Driver, Ran, ask, finish, is_spent};
 use macro_decls::MacroTable;
@@ -68,11 +70,13 @@ fn put_outcome<W: Drop, R: Drop>(
 {
     let mut table = table;
     let Asked { driver, outcome } = asked;
-    if let Some(outcome) = outcome {
-        table.put(request.key.clone()?, outcome)?;
-        return Ok(UnderWay { driver, table });
+    match outcome {
+        Some(outcome) => {
+            table.put(request.key.clone()?, outcome)?;
+            Ok(UnderWay { driver, table })
+        }
+        None => Ok(UnderWay { driver, table }),
     }
-    Ok(UnderWay { driver, table })
 }
 
 // Asks a request that has no outcome.
@@ -94,11 +98,36 @@ fn ask_one<P: Starter>(
         → (IsSpent (driver_seen P.Writer.seen P.Reader.seen way.driver) → ⊥) → Contains (asked_with macros plugins.now source (look way.table)) request.now
         → IfOk result (λ next. IsUnderWay macros plugins.now source before (driver_seen P.Writer.seen P.Reader.seen next.driver) (look next.table) (P.seen starter.new)) }
 {
-    asked_requests_grow();
     let UnderWay { driver, table } = way;
     let command = command_for(plugins, request.target.module.bytes());
     let asked = ask(alloc, driver, starter, command, request)?;
-    put_outcome(table, request, asked)
+    let next = put_outcome(table, request, asked)?;
+    Ok(next)
+}
+
+// Asks a request that has no outcome, as long as anything is asked.
+fn ask_next<P: Starter>(
+    alloc: Global,
+    way: UnderWay<P::Writer, P::Reader>,
+    starter: &mut P,
+    plugins: &[Plugin],
+    request: &Request,
+) -> Result<UnderWay<P::Writer, P::Reader>, AllocError>
+    requires commands { All IsStartable plugins.now }
+    requires writable { IsRequestWritable request.now }
+    requires sound { driven.IsSound (driver_seen P.Writer.seen P.Reader.seen way.driver) }
+    ensures sound { IfOk result (λ next. driven.IsSound (driver_seen P.Writer.seen P.Reader.seen next.driver)) }
+    ensures wider { IfOk result (λ next. IsWithin (look way.table) (look next.table)) }
+    ensures under_way { (macros : List MacroDecl) (source : BufferSeen) (before : StarterSeen)
+        → IsUnderWay macros plugins.now source before (driver_seen P.Writer.seen P.Reader.seen way.driver) (look way.table) (P.seen starter.old)
+        → Contains (asked_with macros plugins.now source (look way.table)) request.now
+        → IfOk result (λ next. IsUnderWay macros plugins.now source before (driver_seen P.Writer.seen P.Reader.seen next.driver) (look next.table) (P.seen starter.new)) }
+{
+    if is_spent(&way.driver) || way.table.get(&request.key).is_some() {
+        return Ok(way);
+    }
+    let next = ask_one(alloc, way, starter, plugins, request)?;
+    Ok(next)
 }
 
 // Asks those of the requests that have no outcome, as long as anything is asked.
@@ -118,12 +147,9 @@ fn ask_each<P: Starter>(
         → All (Contains (asked_with macros plugins.now source (look way.table))) requests.now
         → IfOk result (λ next. IsUnderWay macros plugins.now source before (driver_seen P.Writer.seen P.Reader.seen next.driver) (look next.table) (P.seen starter.new)) }
 {
-    asked_requests_grow();
     let mut way = way;
     'requests: for request in requests {
-        if !is_spent(&way.driver) && way.table.get(&request.key).is_none() {
-            way = ask_one(alloc, way, starter, plugins, request)?;
-        }
+        way = ask_next(alloc, way, starter, plugins, request)?;
     }
     Ok(way)
 }
@@ -143,6 +169,7 @@ fn finished<P: Starter>(
     ensures { (macros : List MacroDecl) (plugins : List Plugin) (source : BufferSeen) (before after : StarterSeen)
         → IsUnderWay macros plugins source before (driver_seen P.Writer.seen P.Reader.seen way.driver) (look way.table) after
         → answer ≡ answer_of macros plugins (look way.table) source
+        → (answer ≡ answers.Limit limits.Bytes → IsSpent (driver_seen P.Writer.seen P.Reader.seen way.driver))
         → IfOk result (λ f. IsAnswered macros plugins source (asking_of (map (link_seen P.Writer.seen P.Reader.seen) f.ran.links.items) f.ran.unstarted.items before after) f.answer) }
 {
     let ran = finish(way.driver)?;
@@ -160,7 +187,7 @@ fn started<P: Starter>(alloc: Global) -> UnderWay<P::Writer, P::Reader>
     }
 }
 
-// One round: what has no outcome is asked, the first request in any case.
+// One round: what has no outcome is asked.
 fn ask_round<P: Starter>(
     alloc: Global,
     way: UnderWay<P::Writer, P::Reader>,
@@ -172,18 +199,17 @@ fn ask_round<P: Starter>(
     requires commands { All IsStartable plugins.now }
     requires first { IsRequestWritable first.now }
     requires others { All IsRequestWritable others.now }
-    requires missing { look way.table first.now.key ≡ None }
     requires sound { driven.IsSound (driver_seen P.Writer.seen P.Reader.seen way.driver) }
     ensures sound { IfOk result (λ next. driven.IsSound (driver_seen P.Writer.seen P.Reader.seen next.driver)) }
     ensures under_way { (macros : List MacroDecl) (source : BufferSeen) (before : StarterSeen)
         → IsUnderWay macros plugins.now source before (driver_seen P.Writer.seen P.Reader.seen way.driver) (look way.table) (P.seen starter.old)
-        → (IsSpent (driver_seen P.Writer.seen P.Reader.seen way.driver) → ⊥) → Contains (asked_with macros plugins.now source (look way.table)) first.now
+        → Contains (asked_with macros plugins.now source (look way.table)) first.now
         → All (Contains (asked_with macros plugins.now source (look way.table))) others.now
         → IfOk result (λ next. IsUnderWay macros plugins.now source before (driver_seen P.Writer.seen P.Reader.seen next.driver) (look next.table) (P.seen starter.new)) }
 {
-    asked_requests_grow();
-    let way = ask_one(alloc, way, starter, plugins, first)?;
-    ask_each(alloc, way, starter, plugins, others)
+    let way = ask_next(alloc, way, starter, plugins, first)?;
+    let way = ask_each(alloc, way, starter, plugins, others)?;
+    Ok(way)
 }
 
 /// The answer for a source: what has no outcome is asked, round after round, until there is nothing more to ask, or

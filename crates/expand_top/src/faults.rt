@@ -40,12 +40,7 @@ pub fn fault_text(kind: ParseKind) -> &'static [u8]
 }
 
 // A name in quotes between two texts.
-fn quoting(
-    alloc: Global,
-    before: &[u8],
-    name: &[u8],
-    behind: &[u8],
-) -> Result<Vec<u8>, AllocError>
+fn quoting(alloc: Global, before: &[u8], name: &[u8], behind: &[u8]) -> Result<Vec<u8>, AllocError>
     ensures { IfOk result (λ v. v.items ≡ quoting before.now name.now behind.now) }
 {
     let mut text = Vec::from_slice(alloc, before)?;

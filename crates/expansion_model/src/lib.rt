@@ -24,7 +24,6 @@ mod visits;
 
 pub use answer::{Answer, LimitKind, MOST_REQUESTS};
 pub use buffer::{Ancestor, Buffer};
-pub use recursion::buffer_sites;
 pub use expanding::{Step, expand_with};
 pub use laws::{
     answers_by_asked_alone, asked_by_rules, asked_requests_grow, asks_are_readable,
@@ -33,6 +32,7 @@ pub use laws::{
 pub use macros::plugin_for;
 pub use message::{Message, MessageText};
 pub use place::{FIRST_PLACE, Place, place_from};
+pub use recursion::buffer_sites;
 pub use request::request_of;
 pub use site::{Ask, Site, SiteFault, SiteKind, UseKind};
 pub use table::Table;

@@ -88,12 +88,7 @@ fn kind_for(role: Role) -> SyntaxKind
 }
 
 #[tactic(auto, unfolding(crate::specs::Requests::syntax_of))]
-fn syntax_of(
-    alloc: Global,
-    buffer: &Buffer,
-    place: Place,
-    ask: &Ask,
-) -> Result<Syntax, AllocError>
+fn syntax_of(alloc: Global, buffer: &Buffer, place: Place, ask: &Ask) -> Result<Syntax, AllocError>
     requires place { place ≡ place_of buffer.now.outline.text ask.now.macro_use.span.start }
     requires readable { IsAskReadable buffer.now.outline.text ask.now }
     ensures syntax { IfOk result (λ syntax. syntax ≡ syntax_of (buffer_seen buffer.now) ask.now) }

@@ -17,9 +17,9 @@ ghost use Rattle.expansion_model.specs.BufferSites.{buffer_sites, offset_of};
 ghost use Rattle.expansion_model.specs.declared.site.Site.TheVariants as site;
 
 use crate::buffer::{Ancestor, Buffer, key_of, reply_buffer, reply_name};
-use crate::recursion::buffer_sites;
 use crate::message::{Message, MessageText};
 use crate::place::{FIRST_PLACE, Place, place_from};
+use crate::recursion::buffer_sites;
 use crate::request::request_of;
 use crate::site::{Ask, Site};
 use crate::table::Table;
@@ -167,11 +167,7 @@ fn edit_from(start: u32, end: u32, bytes: Vec<u8>) -> Edit
 }
 
 // The text from its first token to its last, with its edits made.
-fn trimmed(
-    alloc: Global,
-    outline: &Outline,
-    edits: Vec<Edit>,
-) -> Result<Vec<u8>, AllocError>
+fn trimmed(alloc: Global, outline: &Outline, edits: Vec<Edit>) -> Result<Vec<u8>, AllocError>
     requires { length outline.now.text < 2 ^ 32 }
     ensures { IfOk result (λ bytes. bytes.items ≡ trimmed (outline_of outline.now) edits.items) }
 {
@@ -184,12 +180,7 @@ fn trimmed(
     edited_text(alloc, text, all)
 }
 
-fn between(
-    alloc: Global,
-    before: &[u8],
-    bytes: &[u8],
-    behind: &[u8],
-) -> Result<Vec<u8>, AllocError>
+fn between(alloc: Global, before: &[u8], bytes: &[u8], behind: &[u8]) -> Result<Vec<u8>, AllocError>
     ensures { IfOk result (λ all. all.items ≡ before.now ++ (bytes.now ++ behind.now)) }
 {
     let mut all = Vec::from_slice(alloc, before)?;
@@ -205,11 +196,7 @@ fn is_without(items: &[Item]) -> bool
     items.len() == 0
 }
 
-fn declarations_or_space(
-    alloc: Global,
-    without: bool,
-    bytes: &[u8],
-) -> Result<Vec<u8>, AllocError>
+fn declarations_or_space(alloc: Global, without: bool, bytes: &[u8]) -> Result<Vec<u8>, AllocError>
     ensures { IfOk result (λ all. all.items ≡ declarations_or_space without bytes.now) }
 {
     if without {
@@ -430,7 +417,17 @@ fn put_outcome(
         Outcome::Reply { text, diagnostics } => {
             let (text, diagnostics) = (text.as_ref(), diagnostics.items());
             put_replied(
-                alloc, macros, plugins, table, depth, buffer, place, ask, text, diagnostics, visited,
+                alloc,
+                macros,
+                plugins,
+                table,
+                depth,
+                buffer,
+                place,
+                ask,
+                text,
+                diagnostics,
+                visited,
             )?;
             Ok(())
         }
@@ -465,7 +462,9 @@ fn put_replied(
     match text {
         Some(reply) => {
             let reply = reply.bytes();
-            put_reply(alloc, macros, plugins, table, depth, buffer, ask, reply, visited)?;
+            put_reply(
+                alloc, macros, plugins, table, depth, buffer, ask, reply, visited,
+            )?;
             Ok(())
         }
         None => {
@@ -578,7 +577,15 @@ fn visit_sites(
     'sites: for site in sites {
         place = place_from(buffer.outline.text.bytes(), place, offset_of(site));
         put_site(
-            alloc, macros, plugins, table, depth, buffer, place, site, &mut visited,
+            alloc,
+            macros,
+            plugins,
+            table,
+            depth,
+            buffer,
+            place,
+            site,
+            &mut visited,
         )?;
     }
     Ok(visited)

@@ -283,6 +283,15 @@ pub fn sites_of(
     let items = &outline.items;
     put_items(alloc, text, macros, plugins, file_scope, items, &mut sites)?;
     let (uses, locals) = (outline.uses.items(), outline.locals.items());
-    put_own(alloc, text, macros, plugins, OF_EXPRESSION, uses, locals, &mut sites)?;
+    put_own(
+        alloc,
+        text,
+        macros,
+        plugins,
+        OF_EXPRESSION,
+        uses,
+        locals,
+        &mut sites,
+    )?;
     Ok(sites)
 }

@@ -226,6 +226,11 @@ then_process wanted left earlier last turns before between after done closed in_
       ];
     }
 
+pub spent_retired : (done : DriverSeen) (link : RunningSeen) (closed : LinkSeen) → IsRetired link false closed → MOST_BYTES < bytes_of done.links + length link.got
+    → MOST_BYTES < bytes_of (done.links ++ closed ∷ [])
+spent_retired done link closed retired spent =
+    omega (arith, spent, bytes_more done.links closed, ap length retired.gains.appended, length-append link.got retired.gains.gained)
+
 pub nothing_done : (before : StarterSeen) (driver : DriverSeen) → driver.links ≡ [] → driver.unstarted ≡ [] → driver.room ≡ MOST_BYTES + 1
     → driver.running ≡ None → IsDriven [] before driver before
 nothing_done before driver links unstarted room running = record {

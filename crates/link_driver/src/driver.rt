@@ -1,5 +1,5 @@
 // The driver: one process at a time, asked for one key after another.
-ghost use Rattle.std.specs.Prelude.{◌≡◌, ◌++◌, ◌∷◌, [], List, None, nat_le, map, option_map, IfOk};
+ghost use Rattle.std.specs.Prelude.{◌≡◌, ◌<◌, ◌++◌, ◌∷◌, [], List, None, nat_le, map, option_map, IfOk};
 ghost use Rattle.swift_base.specs.Outside.{StarterSeen};
 ghost use Rattle.plugin_messages.specs.Writable.{IsRequestWritable};
 ghost use Rattle.std.specs.Bool.{Decides};
@@ -7,7 +7,7 @@ ghost use Rattle.link_driver.specs.LinkTable.{Look, IsRunTable};
 ghost use Rattle.link_driver.specs.Told.{HasTable, IsPut};
 ghost use Rattle.link_driver.specs.Links.{KeySteps, link_seen, running_seen};
 ghost use Rattle.link_driver.specs.Requests.{Wanted, wanted_of};
-ghost use Rattle.link_driver.specs.Driven.{driver_seen, IsSound, IsSpent, IsDriven, running_bytes};
+ghost use Rattle.link_driver.specs.Driven.{driver_seen, IsSound, IsSpent, IsDriven, bytes_of, running_bytes};
 ghost use Rattle.link_driver.specs.Ran.{HasRun};
 
 use crate::link::{Closed, MOST_BYTES, Running, Unstarted};
@@ -123,6 +123,8 @@ pub fn finish<W: Sink, R: Source>(driver: Driver<W, R>) -> Result<Ran<W, R>, All
         → IfOk result (λ ran. HasRun wanted before (map (link_seen W.seen R.seen) ran.links.items) ran.unstarted.items after) }
     ensures table { (table : Look) → HasTable table (driver_seen W.seen R.seen driver)
         → IfOk result (λ ran. IsRunTable table (map (link_seen W.seen R.seen) ran.links.items) ran.unstarted.items) }
+    ensures spent { IsSpent (driver_seen W.seen R.seen driver)
+        → IfOk result (λ ran. MOST_BYTES < bytes_of (map (link_seen W.seen R.seen) ran.links.items)) }
 {
     let done = stopped(driver)?;
     Ok(Ran {

@@ -5,7 +5,7 @@ ghost use Rattle.link_driver.specs.Links.{HasNotStopped, running_seen};
 ghost use Rattle.link_driver.specs.Requests.{Wanted};
 ghost use Rattle.link_driver.specs.LinkTable.{Look};
 ghost use Rattle.link_driver.specs.Told.{HasTable};
-ghost use Rattle.link_driver.specs.Driven.{done_seen, driver_seen, IsSound, RunsFor, IsDriven};
+ghost use Rattle.link_driver.specs.Driven.{done_seen, driver_seen, IsSound, IsSpent, RunsFor, IsDriven};
 
 use crate::driver::{Done, Driver};
 use crate::link::{Closed, Running};
@@ -48,6 +48,8 @@ fn with_retired<W: Sink, R: Source>(
         → IfOk result (λ next. IsDriven wanted before (done_seen W.seen R.seen next None) after) }
     ensures table { (table : Look) → HasTable table (done_seen W.seen R.seen done (Some (running_seen W.seen R.seen link)))
         → IfOk result (λ next. HasTable table (done_seen W.seen R.seen next None)) }
+    ensures spent { IsSpent (done_seen W.seen R.seen done (Some (running_seen W.seen R.seen link)))
+        → IfOk result (λ next. IsSpent (done_seen W.seen R.seen next None)) }
 {
     frames_go_on();
     one_reading();
@@ -62,6 +64,7 @@ pub fn stopped<W: Sink, R: Source>(driver: Driver<W, R>) -> Result<Done<W, R>, A
         → IfOk result (λ next. IsDriven wanted before (done_seen W.seen R.seen next None) after) }
     ensures table { (table : Look) → HasTable table (driver_seen W.seen R.seen driver)
         → IfOk result (λ next. HasTable table (done_seen W.seen R.seen next None)) }
+    ensures spent { IsSpent (driver_seen W.seen R.seen driver) → IfOk result (λ next. IsSpent (done_seen W.seen R.seen next None)) }
 {
     let Driver { done, running } = driver;
     match running {

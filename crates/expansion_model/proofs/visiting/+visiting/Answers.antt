@@ -100,8 +100,7 @@ visit_sites-sites-init t c =
 pub visit_sites-sites-preserved : goal.visit_sites-sites-preserved
 visit_sites-sites-preserved t c =
     let give = given (visit_to c.args.macros.now c.args.plugins.now (look c.args.table.now) c.args.depth) c.args.macros.now (look c.args.table.now) (buffer_seen c.args.buffer.now) in
-    let further = drop_more c.args.sites.now c.sites.site-index c.site-item.result c.sites-test.true ∙ ap (λ (s : Site). s ∷ drop (c.sites.site-index + 1) c.args.sites.now) (sym c.site-item.is) in
-    (
+    let further = drop_more c.args.sites.now c.sites.site-index c.site-item.result c.sites-test.true ∙ ap (λ (s : Site). s ∷ drop (c.sites.site-index + 1) c.args.sites.now) (sym c.site-item.is) in (
       placed c.args.buffer.now.outline.text c.place_from-place.result _ (c.place_from-place.ensures ∙ ap (λ (t : List ℕ). place_of t c.offset_of.result) c.bytes.ensures),
       kept-further (look c.args.table.now) give (visited_seen c.sites.visited) (visited_seen c.put_site.new.visited) c.site-item.result (drop (c.sites.site-index + 1) c.args.sites.now) _ c.in_ok-put_site.ensures
           (ap (λ (l : List Site). with_more (visited_seen c.sites.visited) (visited_of (look c.args.table.now) (over give l))) (sym further) ∙ c.sites.invariant.1),
@@ -115,6 +114,13 @@ visit_sites-returns t c =
     ∙ c.sites.invariant.1
 
 pub visit_to-visit_sites-requires : goal.visit_to-visit_sites-requires
-visit_to-visit_sites-requires t c =
-    (search rules, (c.requires.readable, (subst (λ (l : List Site). All (IsSiteReadable c.args.buffer.now.outline.text) l) (sym c.deref.ensures.value) c.in_ok-sites.ensures.asked,
-      omega (arith, sound_is_short (buffer_seen c.args.buffer.now) c.requires.sound))))
+visit_to-visit_sites-requires t c = (
+  search rules,
+  (
+    c.requires.readable,
+    (
+      subst (λ (l : List Site). All (IsSiteReadable c.args.buffer.now.outline.text) l) (sym c.deref.ensures.value) c.in_ok-sites.ensures.asked,
+      omega (arith, sound_is_short (buffer_seen c.args.buffer.now) c.requires.sound),
+    ),
+  ),
+)

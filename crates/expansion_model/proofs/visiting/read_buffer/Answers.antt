@@ -11,5 +11,8 @@ returns-clause-sound c =
 
 pub returns-clause-short : goal.returns-clause-short
 returns-clause-short c =
-    omega (arith, sound_is_short (buffer_seen c.in_ok-inner.inner)
-    (subst (λ (b : BufferSeen). IsSound b) (sym c.in_ok-inner.ensures) (reply_is_sound c.args.macros.now (buffer_seen c.args.buffer.now) c.args.ask.now c.args.reply.now (outline_of c.args.outline) c.requires)))
+    omega (
+      arith,
+      sound_is_short (buffer_seen c.in_ok-inner.inner)
+          (subst (λ (b : BufferSeen). IsSound b) (sym c.in_ok-inner.ensures) (reply_is_sound c.args.macros.now (buffer_seen c.args.buffer.now) c.args.ask.now c.args.reply.now (outline_of c.args.outline) c.requires)),
+    )

@@ -1,5 +1,5 @@
 use Rattle.std.proofs.Common.{subst, option_map}
-use Rattle.link_driver.specs.Driven.{done_seen, IsDriven}
+use Rattle.link_driver.specs.Driven.{done_seen, IsDriven, IsSpent}
 use Rattle.link_driver.specs.Links.{running_seen}
 use Rattle.link_driver.proofs.retiring.stopped.Goals as goal
 use Rattle.link_driver.specs.Told.{HasTable}
@@ -15,3 +15,9 @@ returns-in-Some-clause-table g c = λ table has.
     c.with_retired.ensures.table table
     (subst (λ r. HasTable table (done_seen g.W.Sink.seen g.R.Source.seen c.args.driver.done (option_map (running_seen g.W.Sink.seen g.R.Source.seen) r)))
     c.in-Some.is has)
+
+pub returns-in-Some-clause-spent : goal.returns-in-Some-clause-spent
+returns-in-Some-clause-spent g c = λ spent.
+    c.with_retired.ensures.spent
+    (subst (λ r. IsSpent (done_seen g.W.Sink.seen g.R.Source.seen c.args.driver.done (option_map (running_seen g.W.Sink.seen g.R.Source.seen) r)))
+    c.in-Some.is spent)

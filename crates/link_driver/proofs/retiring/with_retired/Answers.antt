@@ -1,8 +1,9 @@
-use Rattle.std.proofs.Common.{ap, sym, refl, subst, map, ◌∙◌, None}
+use Rattle.std.proofs.Common.{◌≡◌, ◌<◌, ◌++◌, ◌∷◌, [], ap, arith, sym, refl, subst, map, ◌∙◌, None}
 use Rattle.std.proofs.lemmas.List.{map-append}
-use Rattle.link_driver.specs.Driven.{DriverSeen, done_seen, IsDriven}
+use Rattle.link_driver.specs.Driven.{DriverSeen, bytes_of, done_seen, IsDriven, IsSpent}
+use Rattle.link_driver.specs.declared.link.TheConstants.{MOST_BYTES}
 use Rattle.link_driver.specs.Links.{link_seen, running_seen}
-use Rattle.link_driver.proofs.Turns.{retired, same_seen}
+use Rattle.link_driver.proofs.Turns.{retired, same_seen, spent_retired}
 use Rattle.link_driver.proofs.Written.{by_three}
 use Rattle.link_driver.proofs.retiring.with_retired.Goals as goal
 use Rattle.link_driver.specs.Told.{HasTable}
@@ -27,4 +28,16 @@ returns-clause-table g c = λ table has.
     (sym (same_seen _ _ (ap (map seen) closed ∙ map-append seen _ _) unstarted room refl))
     (retired_table table done (running_seen g.W.Sink.seen g.R.Source.seen c.args.link) (seen c.in_ok-closed.closed) c.one_reading.ensures.some
     c.one_reading.ensures.one c.frames_go_on.ensures.rest c.in_ok-closed.ensures has))
+    c.with_closed.ensures.closed c.with_closed.ensures.unstarted c.with_closed.ensures.room
+
+pub returns-clause-spent : goal.returns-clause-spent
+returns-clause-spent g c = λ spent.
+    let seen = link_seen g.W.Sink.seen g.R.Source.seen in
+    let done = done_seen g.W.Sink.seen g.R.Source.seen c.args.done None in
+    by_three c.with_closed.result _ _ _ _
+    (λ next closed unstarted room.
+    let now : bytes_of (map seen next.closed.items) ≡ bytes_of (map seen c.args.done.closed.items ++ seen c.in_ok-closed.closed ∷ []) = ap bytes_of (ap (map seen) closed ∙ map-append seen _ _) in
+    let many : MOST_BYTES < bytes_of (map seen c.args.done.closed.items ++ seen c.in_ok-closed.closed ∷ []) =
+    spent_retired done (running_seen g.W.Sink.seen g.R.Source.seen c.args.link) (seen c.in_ok-closed.closed) c.in_ok-closed.ensures spent in
+    omega (arith, now, many))
     c.with_closed.ensures.closed c.with_closed.ensures.unstarted c.with_closed.ensures.room
