@@ -3,3 +3,4 @@ pub mod Promises
 pub mod Found
 pub mod Files
 pub mod Ways
+pub mod Rounds

@@ -37,7 +37,7 @@ use Rattle.link_driver.specs.Lists.{Each}
 use Rattle.link_driver.specs.Requests.{Wanted, key_of}
 use Rattle.result_splice.specs.Edits.{IsEdited}
 use Rattle.result_splice.specs.declared.edit.Edit.{Edit}
-use Rattle.result_splice.proofs.Lying.{makes_edits}
+use Rattle.result_splice.specs.Laws.{MakesEdits}
 use Rattle.expand_top.specs.Answers.{output_of}
 use Rattle.expand_top.specs.Asking.{Asking, AreDifferent, IsAskedOf, IsExpansion, IsOneOf, asked_in, is_limit, is_limited, output_in, times}
 use Rattle.expand_top.specs.Lines.{Output}
@@ -176,12 +176,12 @@ output_status files after name plugins (Means source declared) table output same
 -- what was written, where the status is 0
 delivered_zero : (out out_after err err_after : SinkSeen) (output : Output) (status : ℕ) → IsDelivered out out_after err err_after output status → status ≡ 0
     → (output.status ≡ 0) × (out_after.held ≡ then_bytes out.held output.out)
-delivered_zero out out_after err err_after output status (whole to_out to_err) zero = (zero, to_out.held)
-delivered_zero out out_after err err_after output status (out_failed front same) zero = absurd (omega arith)
-delivered_zero out out_after err err_after output status (err_failed to_out front) zero = absurd (omega arith)
+delivered_zero out out_after err err_after output status (whole to_out to_err) nought = (nought, to_out.held)
+delivered_zero out out_after err err_after output status (out_failed front same) nought = absurd (omega arith)
+delivered_zero out out_after err err_after output status (err_failed to_out front) nought = absurd (omega arith)
 
 no_zero : {A : Type 0} (output : Output) (n : ℕ) → output.status ≡ suc n → output.status ≡ 0 → A
-no_zero output n is zero = absurd (omega (arith, is, zero))
+no_zero output n is nought = absurd (omega (arith, is, nought))
 
 -- the bytes are those of a text with edits that replace these spans
 abbrev Kept : List ℕ → List Span → List ℕ → Type 0
@@ -198,41 +198,41 @@ module _ (name : List ℕ) (plugins : List Plugin) (source : OutlineSeen) (decla
   spans = spans_of (buffer_sites declared plugins buffer)
 
   -- the status is 0 where the answer is a file
-  messages_kept : IsSound buffer → lacks_outcome table found ≡ false → (messages : List Message) → found.messages ≡ messages → (output_of name (by_messages source.text found messages)).status ≡ 0
+  messages_kept : MakesEdits → IsSound buffer → lacks_outcome table found ≡ false → (messages : List Message) → found.messages ≡ messages → (output_of name (by_messages source.text found messages)).status ≡ 0
       → Kept source.text spans (output_of name (by_messages source.text found messages)).out
-  messages_kept sound complete [] is zero =
-      (found.edits, edits_are_of_sites declared plugins table buffer complete is, makes_edits source.text found.edits (edits_made declared plugins table buffer sound))
-  messages_kept sound complete (message ∷ messages) is zero = no_zero (output_of name (by_messages source.text found (message ∷ messages))) 0 refl zero
+  messages_kept makes sound complete [] is nought =
+      (found.edits, edits_are_of_sites declared plugins table buffer complete is, makes source.text found.edits (edits_made declared plugins table buffer sound))
+  messages_kept makes sound complete (message ∷ messages) is nought = no_zero (output_of name (by_messages source.text found (message ∷ messages))) 0 refl nought
 
-  lacks_kept : IsSound buffer → (b : Bool) → lacks_outcome table found ≡ b → (output_of name (if b then answer.Limit limit.Bytes else by_messages source.text found found.messages)).status ≡ 0
+  lacks_kept : MakesEdits → IsSound buffer → (b : Bool) → lacks_outcome table found ≡ b → (output_of name (if b then answer.Limit limit.Bytes else by_messages source.text found found.messages)).status ≡ 0
       → Kept source.text spans (output_of name (if b then answer.Limit limit.Bytes else by_messages source.text found found.messages)).out
-  lacks_kept sound true is zero = no_zero (output_of name (answer.Limit limit.Bytes)) 0 refl zero
-  lacks_kept sound false is zero = messages_kept sound is found.messages refl zero
+  lacks_kept makes sound true is nought = no_zero (output_of name (answer.Limit limit.Bytes)) 0 refl nought
+  lacks_kept makes sound false is nought = messages_kept makes sound is found.messages refl nought
 
-  many_kept : IsSound buffer → (b : Bool)
+  many_kept : MakesEdits → IsSound buffer → (b : Bool)
       → (output_of name (if b then answer.Limit limit.Requests else (if lacks_outcome table found then answer.Limit limit.Bytes else by_messages source.text found found.messages))).status ≡ 0
       → Kept source.text spans (output_of name (if b then answer.Limit limit.Requests else (if lacks_outcome table found then answer.Limit limit.Bytes else by_messages source.text found found.messages))).out
-  many_kept sound true zero = no_zero (output_of name (answer.Limit limit.Requests)) 0 refl zero
-  many_kept sound false zero = lacks_kept sound (lacks_outcome table found) refl zero
+  many_kept makes sound true nought = no_zero (output_of name (answer.Limit limit.Requests)) 0 refl nought
+  many_kept makes sound false nought = lacks_kept makes sound (lacks_outcome table found) refl nought
 
-  answer_kept : IsSound buffer → (output_of name (answer_of declared plugins table buffer)).status ≡ 0 → Kept source.text spans (output_of name (answer_of declared plugins table buffer)).out
+  answer_kept : MakesEdits → IsSound buffer → (output_of name (answer_of declared plugins table buffer)).status ≡ 0 → Kept source.text spans (output_of name (answer_of declared plugins table buffer)).out
   unfolding answer_of
-  answer_kept sound zero = many_kept sound (are_too_many found) zero
+  answer_kept makes sound nought = many_kept makes sound (are_too_many found) nought
 
-output_kept : (files after : FilesSeen) (name : List ℕ) (plugins : List Plugin) (means : Meaning) (table : Look) (output : Output) → IsKnown files after means → IsMeant means → output.status ≡ 0
+output_kept : MakesEdits → (files after : FilesSeen) (name : List ℕ) (plugins : List Plugin) (means : Meaning) (table : Look) (output : Output) → IsKnown files after means → IsMeant means → output.status ≡ 0
     → output ≡ output_in name plugins means table → KeepsOutside name plugins means output.out
-output_kept files after name plugins (Refused refusal) table output (inl low) meant zero is = no_zero output 0 (ap (λ (w : Output). w.status) is ∙ low.0) zero
-output_kept files after name plugins (Refused refusal) table output (inr unread) meant zero is = no_zero output 2 (ap (λ (w : Output). w.status) is ∙ unread.0) zero
-output_kept files after name plugins (Means source declared) table output same meant zero is =
-    let kept = answer_kept name plugins source declared table meant (sym (ap (λ (w : Output). w.status) is) ∙ zero) in
+output_kept makes files after name plugins (Refused refusal) table output (inl low) meant nought is = no_zero output 0 (ap (λ (w : Output). w.status) is ∙ low.0) nought
+output_kept makes files after name plugins (Refused refusal) table output (inr unread) meant nought is = no_zero output 2 (ap (λ (w : Output). w.status) is ∙ unread.0) nought
+output_kept makes files after name plugins (Means source declared) table output same meant nought is =
+    let kept = answer_kept name plugins source declared table makes meant (sym (ap (λ (w : Output). w.status) is) ∙ nought) in
     record { edits = kept.0; spans = kept.1; kept = subst (IsEdited source.text kept.0) (sym (ap (λ (w : Output). w.out) is)) kept.2 }
 
-pub keeps_bytes : (file : Option (List ℕ)) (name : List ℕ) (plugins : List Plugin) (inputs : Inputs) (asking : Asking) (output : Output) (files files_after : FilesSeen)
+pub keeps_bytes : MakesEdits → (file : Option (List ℕ)) (name : List ℕ) (plugins : List Plugin) (inputs : Inputs) (asking : Asking) (output : Output) (files files_after : FilesSeen)
     (out out_after err err_after : SinkSeen) (status : ℕ) → ReadsInputs files files_after file name inputs → IsExpansion name plugins (meaning_of file name inputs) asking output
     → IsDelivered out out_after err err_after output status → KeepsBytes file name plugins inputs status out out_after
-keeps_bytes file name plugins inputs asking output files files_after out out_after err err_after status reads is delivered zero =
-    let wrote = delivered_zero out out_after err err_after output status delivered zero in
-    (output.out, output_kept files files_after name plugins (meaning_of file name inputs) is.table output (known files files_after file name inputs reads) (meant file name inputs) wrote.0 is.writes, wrote.1)
+keeps_bytes makes file name plugins inputs asking output files files_after out out_after err err_after status reads is delivered nought =
+    let wrote = delivered_zero out out_after err err_after output status delivered nought in
+    (output.out, output_kept makes files files_after name plugins (meaning_of file name inputs) is.table output (known files files_after file name inputs reads) (meant file name inputs) wrote.0 is.writes, wrote.1)
 
 whole_cause : (files files_after : FilesSeen) (out out_after err err_after : SinkSeen) (status : ℕ) → out_after.faults ≡ out.faults → err_after.faults ≡ err.faults
     → ((status < 2) × (files_after.faults ≡ files.faults)) ⊎ ((status ≡ 3) × Rose files.faults files_after.faults) → StatusHasCause status files files_after out out_after err err_after
@@ -289,10 +289,10 @@ none_some {A} x is = let P : Option A → Type 0 = λ o. elim o [ None ↦ Unit 
 
 -- a property of all holds of some of them
 all_of_some : (P : Wanted → Type 0) (some all : List Wanted) → IsSublist some all → All P all → All P some
-all_of_some P [] all (none others) each = All-nil P
-all_of_some P (first ∷ some) (first ∷ others) (takes first some others sub) each =
+all_of_some P _ _ (none all) each = All-nil P
+all_of_some P _ _ (takes first some others sub) each =
     All-cons P first some (All-head P first others each) (all_of_some P some others sub (All-tail P first others each))
-all_of_some P some (first ∷ others) (skips first some others sub) each = all_of_some P some others sub (All-tail P first others each)
+all_of_some P some _ (skips first _ others sub) each = all_of_some P some others sub (All-tail P first others each)
 
 -- from what one run does to what it promises of its requests
 serves : OnlyLastKeysFail → (plugins : List Plugin) (asked : List Request) (wanted : List Wanted) → All (IsOneOf plugins asked) wanted → (link : LinkSeen) → of_list.IsServedOf wanted link

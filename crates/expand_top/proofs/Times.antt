@@ -40,10 +40,10 @@ stands key (other ∷ keys) some = stands_if (same key other) key other keys ref
 itself : (key other : KeySteps) → other ≡ key → counts key other ≡ 1
 itself key other is = ap one_if ((keys_decide key other).1 (sym is))
 
-not_in_none : {A X : Type 0} (x : X) → Contains [] x → A
+pub not_in_none : {A X : Type 0} (x : X) → Contains [] x → A
 not_in_none x has = absurd (omega (arith, has.1))
 
-one_of : {X : Type 0} (x only : X) → Contains (only ∷ []) x → only ≡ x
+pub one_of : {X : Type 0} (x only : X) → Contains (only ∷ []) x → only ≡ x
 one_of x only has = elim (Contains-push_cases [] only x has) [
   | inl none_ ↦ not_in_none x none_
   | inr is ↦ is

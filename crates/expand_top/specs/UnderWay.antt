@@ -12,7 +12,7 @@ use Rattle.link_driver.specs.Requests.{Wanted, key_of}
 use Rattle.link_driver.specs.Told.{HasTable}
 use Rattle.expansion_model.specs.Answer.{answer_of}
 use Rattle.expansion_model.specs.declared.answer.Answer.{Answer}
-use Rattle.expansion_model.specs.declared.answer.Answer.TheVariants as answers
+use Rattle.expansion_model.specs.declared.answer.Answer.TheVariants as ends
 use Rattle.expansion_model.specs.declared.answer.LimitKind.TheVariants as limits
 use Rattle.link_driver.specs.LinkTable.{Look, IsRunTable}
 use Rattle.expand_top.specs.Asking.{Asking, AreDifferent, IsAskedOf, IsOneOf}
@@ -35,4 +35,4 @@ pub record IsAnswered (macros : List MacroDecl) (plugins : List Plugin) (source 
   pub is_table : IsRunTable table asking.links asking.unstarted
   pub asks : IsAskedOf plugins (asked_with macros plugins source table) asking
   pub answers : answer ≡ answer_of macros plugins table source
-  pub spent : answer ≡ answers.Limit limits.Bytes → MOST_BYTES < bytes_of asking.links
+  pub spent : answer ≡ ends.Limit limits.Bytes → MOST_BYTES < bytes_of asking.links

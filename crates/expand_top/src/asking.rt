@@ -207,9 +207,9 @@ fn ask_round<P: Starter>(
         → All (Contains (asked_with macros plugins.now source (look way.table))) others.now
         → IfOk result (λ next. IsUnderWay macros plugins.now source before (driver_seen P.Writer.seen P.Reader.seen next.driver) (look next.table) (P.seen starter.new)) }
 {
-    let way = ask_next(alloc, way, starter, plugins, first)?;
-    let way = ask_each(alloc, way, starter, plugins, others)?;
-    Ok(way)
+    let next = ask_next(alloc, way, starter, plugins, first)?;
+    let last = ask_each(alloc, next, starter, plugins, others)?;
+    Ok(last)
 }
 
 /// The answer for a source: what has no outcome is asked, round after round, until there is nothing more to ask, or

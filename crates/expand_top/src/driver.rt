@@ -24,6 +24,7 @@ use crate::report::{Output, output_of};
 use expansion_model::Buffer;
 use link_driver::{Closed, Ran, Unstarted, only_last_keys_fail};
 use macro_decls::MacroTable;
+use result_splice::edits_are_made;
 use std::alloc::{AllocError, Global};
 use swift_base::{FileFault, Files, Plugin, Plugins, Sink, Starter, Text, WriteFault, write_all};
 use swift_tree::Outline;
@@ -363,6 +364,7 @@ pub fn run<T: AllocGlobal + Copy + Drop, F: Files, O: Sink, E: Sink, P: Starter>
     ensures memory { result.status ≡ 5 → IsUnwritten (O.seen out.old) (O.seen out.new) (E.seen err.old) (E.seen err.new) }
 {
     only_last_keys_fail();
+    edits_are_made();
     let alloc = rt.alloc();
     let Some(named) = named_in(words) else {
         return refuse(alloc, out, err);

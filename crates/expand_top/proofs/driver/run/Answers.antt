@@ -46,7 +46,7 @@ returns-in_default-clause-failed_starts g c = λ name macros plugins is. absurd 
 
 pub returns-clause-kept : goal.returns-clause-kept
 returns-clause-kept g c = λ name macros plugins is ok.
-    let done = c.run_named.ensures.expanded name macros plugins (sym c.in-Some.ensures.some ∙ is) ok in keeps_bytes macros name plugins _ _ done.output _ _ _ _ _ _ _ done.reads done.expands done.delivered
+    let done = c.run_named.ensures.expanded name macros plugins (sym c.in-Some.ensures.some ∙ is) ok in keeps_bytes c.edits_are_made.ensures macros name plugins _ _ done.output _ _ _ _ _ _ _ done.reads done.expands done.delivered
 
 pub returns-in_default-clause-kept : goal.returns-in_default-clause-kept
 returns-in_default-clause-kept g c = λ name macros plugins is. absurd (none_some _ (sym c.in_default.ensures.none ∙ is))

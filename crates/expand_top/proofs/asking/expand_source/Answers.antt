@@ -1,0 +1,1 @@
+use Rattle.expand_top.proofs.asking.expand_source.Goals as goal
