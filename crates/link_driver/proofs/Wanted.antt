@@ -1,16 +1,15 @@
 -- What was wanted of a driver that may go on is what it has asked.
-use Rattle.std.proofs.Common.{◌≡◌, ◌∙◌, ◌⊎◌, inl, inr, refl, sym, ap, ap₂, subst, ℕ, Option, Some, None, List, [], ◌++◌, map, append-nil}
+use Rattle.std.proofs.Common.{◌≡◌, ◌∙◌, ◌⊎◌, inl, inr, sym, ap, ap₂, subst, ℕ, Option, Some, None, List, [], ◌++◌, map, append-nil}
 use Rattle.std.specs.List.{flat_map}
 use Rattle.std.specs.List.Sorted.{IsPermutation}
 use Rattle.std.proofs.lemmas.List.{map-append}
 use Rattle.std.proofs.lemmas.List.Sorted.{IsPermutation-append, IsPermutation-refl}
 use Rattle.swift_base.specs.Outside.{StarterSeen}
 use Rattle.link_driver.specs.Driven.{DriverSeen, IsDriven, IsRunning, IsSpent, links_in, requests_in, unstarted_in}
-use Rattle.link_driver.specs.Links.{KeySteps, LinkSeen, RunningSeen}
+use Rattle.link_driver.specs.Links.{KeySteps, RunningSeen}
 use Rattle.link_driver.specs.LinkTable.{asked_keys}
 use Rattle.link_driver.specs.Requests.{Wanted, key_of}
 use Rattle.link_driver.specs.Told.{driver_keys, running_keys}
-use Rattle.link_driver.specs.declared.link.Unstarted.{Unstarted}
 use Rattle.link_driver.proofs.Runs.{keys_once}
 
 running_told : (given : ℕ) (before : StarterSeen) (running : Option RunningSeen) (requests : List Wanted) (after : StarterSeen) → IsRunning given before running requests after → map key_of requests ≡ running_keys running

@@ -1,11 +1,11 @@
 // The driver: one process at a time, asked for one key after another.
-ghost use Rattle.std.specs.Prelude.{◌≡◌, ◌<◌, ◌++◌, ◌∷◌, [], List, None, nat_le, map, option_map, IfOk};
+ghost use Rattle.std.specs.Prelude.{◌≡◌, ◌<◌, ◌++◌, ◌∷◌, [], List, Some, None, nat_le, map, option_map, IfOk};
 ghost use Rattle.swift_base.specs.Outside.{StarterSeen};
 ghost use Rattle.plugin_messages.specs.Writable.{IsRequestWritable};
 ghost use Rattle.std.specs.Bool.{Decides};
 ghost use Rattle.link_driver.specs.LinkTable.{Look, IsRunTable};
 ghost use Rattle.link_driver.specs.Told.{HasTable, IsPut};
-ghost use Rattle.link_driver.specs.Links.{KeySteps, link_seen, running_seen};
+ghost use Rattle.link_driver.specs.Links.{KeySteps, RunningSeen, link_seen, running_seen};
 ghost use Rattle.link_driver.specs.Requests.{Wanted, wanted_of};
 ghost use Rattle.link_driver.specs.Driven.{driver_seen, IsSound, IsSpent, IsDriven, bytes_of, running_bytes};
 ghost use Rattle.link_driver.specs.Ran.{HasRun};
@@ -97,6 +97,8 @@ pub fn ask<P: Starter>(
         (driver_seen P.Writer.seen P.Reader.seen a.driver) (P.seen starter.new)) }
     ensures table { (table after : Look) → HasTable table (driver_seen P.Writer.seen P.Reader.seen driver) → table request.now.key ≡ None
         → IfOk result (λ a. IsPut table request.now.key a.outcome after → HasTable after (driver_seen P.Writer.seen P.Reader.seen a.driver)) }
+    ensures again { (link : RunningSeen) → (driver_seen P.Writer.seen P.Reader.seen driver).running ≡ Some link → link.module_name ≡ request.now.target.module
+        → IfOk result (λ _. P.seen starter.new ≡ P.seen starter.old) }
     ensures spent { (table : Look) → HasTable table (driver_seen P.Writer.seen P.Reader.seen driver)
         → IfOk result (λ a. a.outcome ≡ None → IsSpent (driver_seen P.Writer.seen P.Reader.seen a.driver)) }
 {

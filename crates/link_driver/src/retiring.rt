@@ -1,7 +1,7 @@
 // Processes that are asked nothing more.
 ghost use Rattle.std.specs.Prelude.{◌≡◌, ◌++◌, ◌∷◌, [], ◌-◌, List, Some, None, length, IfOk};
 ghost use Rattle.swift_base.specs.Outside.{StarterSeen};
-ghost use Rattle.link_driver.specs.Links.{HasNotStopped, running_seen};
+ghost use Rattle.link_driver.specs.Links.{RunningSeen, HasNotStopped, running_seen};
 ghost use Rattle.link_driver.specs.Requests.{Wanted};
 ghost use Rattle.link_driver.specs.LinkTable.{Look};
 ghost use Rattle.link_driver.specs.Told.{HasTable};
@@ -81,6 +81,8 @@ pub fn keep_for<W: Sink, R: Source>(
     requires { IsSound (driver_seen W.seen R.seen driver) }
     ensures sound { IfOk result (λ next. IsSound (driver_seen W.seen R.seen next)) }
     ensures of_module { IfOk result (λ next. RunsFor module_name.now (driver_seen W.seen R.seen next).running) }
+    ensures keeps { (link : RunningSeen) → (driver_seen W.seen R.seen driver).running ≡ Some link → link.module_name ≡ module_name.now
+        → IfOk result (λ next. driver_seen W.seen R.seen next ≡ driver_seen W.seen R.seen driver) }
     ensures driven { (wanted : List Wanted) (before after : StarterSeen) → IsDriven wanted before (driver_seen W.seen R.seen driver) after
         → IfOk result (λ next. IsDriven wanted before (driver_seen W.seen R.seen next) after) }
     ensures table { (table : Look) → HasTable table (driver_seen W.seen R.seen driver)

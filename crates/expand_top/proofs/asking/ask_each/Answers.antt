@@ -16,7 +16,7 @@ requests-preserved g c = (
       let asked = asked_with macros c.args.plugins.now source (look c.args.way.table) in
       c.in_ok-way.ensures.under_way macros source before (c.requests.invariant.2 macros source before way each)
       (asked_grow macros c.args.plugins.now (look c.args.way.table) (look c.requests.way.table) source c.request-item.result c.requests.invariant.1
-      (subst (Contains asked) c.request-item.is (each c.requests.request-index c.request-item.result c.requests-test.true))),
+      (subst (Contains asked) (sym c.request-item.is) (each c.requests.request-index c.request-item.result c.requests-test.true))),
 )
 
 pub returns-clause-under_way : goal.returns-clause-under_way

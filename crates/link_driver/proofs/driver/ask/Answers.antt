@@ -1,6 +1,6 @@
-use Rattle.std.proofs.Common.{◌≡◌, sym, subst, ◌∙◌, nat_le, false, option_map, None}
-use Rattle.link_driver.specs.Driven.{done_seen, driver_seen, IsDriven, RunsFor, running_bytes}
-use Rattle.link_driver.specs.Links.{running_seen}
+use Rattle.std.proofs.Common.{◌≡◌, ap, sym, subst, ◌∙◌, nat_le, false, Option, option_map, Some, None}
+use Rattle.link_driver.specs.Driven.{DriverSeen, done_seen, driver_seen, IsDriven, RunsFor, running_bytes}
+use Rattle.link_driver.specs.Links.{RunningSeen, running_seen}
 use Rattle.link_driver.specs.Requests.{wanted_of}
 use Rattle.link_driver.proofs.Turns.{left_over, asked_again, some_room}
 use Rattle.link_driver.proofs.Written.{by_one}
@@ -79,3 +79,14 @@ returns-then-is_spent-clause-spent g c = λ table has none.
 pub returns-in-Some-clause-spent : goal.returns-in-Some-clause-spent
 returns-in-Some-clause-spent g c = λ table has.
     by_one c.ask_running.result _ _ (λ next asked none. asked_spent _ _ _ _ _ _ _ asked none) c.ask_running.ensures.asked
+
+runs_none : (running kept : Option RunningSeen) (link : RunningSeen) → running ≡ Some link → kept ≡ running → kept ≡ None → ⊥
+runs_none running kept link is same none =
+    let both : Some link ≡ None = sym is ∙ sym same ∙ none in
+    absurd (cc)
+
+pub returns-in-None-clause-again : goal.returns-in-None-clause-again
+returns-in-None-clause-again g c = λ link runs of_module.
+    absurd (runs_none _ _ link runs
+    (ap (λ (d : DriverSeen). d.running) (c.in_ok-driver.ensures.keeps link runs (of_module ∙ sym c.bytes.ensures)))
+    (ap (option_map (running_seen g.P.Writer.Sink.seen g.P.Reader.Source.seen)) c.in-None.is))
