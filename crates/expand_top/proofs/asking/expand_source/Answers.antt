@@ -1,4 +1,4 @@
-use Rattle.std.proofs.Common.{◌≡◌, subst, sym, List, ◌∷◌}
+use Rattle.std.proofs.Common.{◌≡◌, refl, subst, sym, List, ◌∷◌}
 use Rattle.std.specs.List.{All, Contains}
 use Rattle.swift_base.specs.declared.plugins.Plugin.{Plugin}
 use Rattle.plugin_messages.specs.Writable.{IsRequestWritable}
@@ -33,7 +33,7 @@ returns-then-is_spent g c =
     let missing : AreMissing macros plugins table source (c.in-Missing.first ∷ c.in-Missing.others.items) =
     subst (λ s. IsStep macros plugins table source (step_seen s)) c.in-Missing.is c.in_ok-answer.ensures.answer in
     c.finished-then-is_spent.ensures macros plugins source before _ c.rounds.invariant.1 (sym missing.answers)
-    (λ bytes. (c.if-is_spent.ensures.driven c.rounds.invariant.1.wanted before (g.P.Starter.seen c.rounds.starter) c.rounds.invariant.1.driven).0 c.if-is_spent.true)
+    (λ bytes. (c.if-is_spent.ensures.driven c.rounds.invariant.1.wanted before (g.P.Starter.seen c.rounds.starter) c.rounds.invariant.1.driven).0 refl)
 
 pub ask_round-requires-clause-commands : goal.ask_round-requires-clause-commands
 ask_round-requires-clause-commands g c κs within = subst (λ (plugins : List Plugin). All IsStartable plugins) (sym c.list.ensures) c.requires.commands
@@ -80,7 +80,7 @@ rounds-preserved g c =
     subst (λ (ps : List Plugin). All (Contains (asked_with macros ps source table)) c.deref.result.now) (sym c.list.ensures)
     (subst (λ (requests : List Request). All (Contains (asked_with macros plugins source table)) requests) (sym c.deref.ensures.value) (others_asked macros plugins table source first others missing)) in
     (
-      c.in_ok-way.ensures.sound,
-      subst (λ (ps : List Plugin). IsUnderWay macros ps source before (driver_seen ws rs c.in_ok-way.way.driver) (look c.in_ok-way.way.table) (g.P.Starter.seen c.ask_round.new.starter)) c.list.ensures
-      (c.in_ok-way.ensures.under_way macros source before way asks_first asks_others),
+      c.in_ok-way-in-Missing.ensures.sound,
+      subst (λ (ps : List Plugin). IsUnderWay macros ps source before (driver_seen ws rs c.in_ok-way-in-Missing.way.driver) (look c.in_ok-way-in-Missing.way.table) (g.P.Starter.seen c.ask_round.new.starter)) c.list.ensures
+      (c.in_ok-way-in-Missing.ensures.under_way macros source before way asks_first asks_others),
     )
