@@ -5,7 +5,7 @@ use Rattle.std.specs.List.{Contains, list_any}
 use Rattle.std.proofs.lemmas.List.{map-append}
 use Rattle.std.proofs.lemmas.List.Elements.{All-cons, All-contains, All-head, All-nil, All-tail, Contains-append_cases, Contains-append_left}
 use Rattle.swift_base.specs.Told.{then_bytes, Rose}
-use Rattle.swift_base.specs.Outside.{SinkSeen, FilesSeen}
+use Rattle.swift_base.specs.Outside.{SinkSeen, FilesSeen, StarterSeen}
 use Rattle.swift_base.specs.declared.place.Span.{Span}
 use Rattle.swift_base.specs.declared.plugins.Plugin.{Plugin}
 use Rattle.swift_tree.specs.declared.outline.Shape.TheVariants.{File}
@@ -39,7 +39,7 @@ use Rattle.result_splice.specs.Edits.{IsEdited}
 use Rattle.result_splice.specs.declared.edit.Edit.{Edit}
 use Rattle.result_splice.specs.Laws.{MakesEdits}
 use Rattle.expand_top.specs.Answers.{output_of}
-use Rattle.expand_top.specs.Asking.{Asking, AreDifferent, IsAskedOf, IsExpansion, IsOneOf, asked_in, is_limit, is_limited, output_in, times}
+use Rattle.expand_top.specs.Asking.{Asking, asking_of, AreDifferent, IsAskedOf, IsExpansion, IsOneOf, asked_in, is_limit, is_limited, output_in, times}
 use Rattle.expand_top.specs.Lines.{Output}
 use Rattle.expand_top.specs.Meaning.{Meaning, Refused, Means, NamedText, by_table, table_meaning, by_outline, source_meaning, by_macros, text_meaning, by_source, by_file, meaning_of}
 use Rattle.expand_top.specs.Promises.{AskedOnce, IsServedOf, KeepsOutside, KeepsBytes, LinksServe, RepliesInOrder, Starts, StatusHasCause}
@@ -389,3 +389,18 @@ asked_once file name plugins inputs asking output is =
         spent = is.spent;
       },
     )
+
+-- nothing is asked for a refusal
+pub nothing_expanded : (name : List ℕ) (plugins : List Plugin) (refusal : Output) (seen : StarterSeen) → IsExpansion name plugins (Refused refusal) (asking_of [] [] seen seen) refusal
+nothing_expanded name plugins refusal seen = record {
+  table = λ key. None;
+  is_table = record { links_tell = tt; failures_tell = tt; no_others = λ key none_. refl };
+  asks = record {
+    wanted = [];
+    ran = record { turns = []; left = []; in_order = refl; links_are = refl; unstarted_are = refl; are_turns = refl; within = tt; limit = inl refl };
+    each = All-nil (IsOneOf plugins []);
+    different = λ key. omega arith;
+  };
+  writes = refl;
+  spent = λ is. absurd (cc);
+}

@@ -1,5 +1,5 @@
 -- What is written to the two streams. This project's own; the lines are those of compilers.
-use Rattle.std.specs.Prelude.{ℕ, ◌==◌, ◌||◌, nat_lt, if◌then◌else◌, List, [], ◌∷◌, ◌++◌, map, take, decimal, codes}
+use Rattle.std.specs.Prelude.{ℕ, ◌==◌, ◌||◌, nat_lt, if◌then◌else◌, List, [], ◌++◌, map, take, decimal, codes}
 use Rattle.swift_base.specs.Lines.{line_behind, column_behind}
 use Rattle.expand_top.specs.declared.report.Output as code
 

@@ -1,5 +1,5 @@
 -- What the code's meaning of files stands for, and what is known of it.
-use Rattle.std.specs.Prelude.{◌≡◌, ℕ, ◌≤◌, Ok, Option, Some, None, List, [], ◌∷◌, length, All, slice_get}
+use Rattle.std.specs.Prelude.{ℕ, ◌≤◌, Ok, Option, Some, None, List, [], ◌∷◌, length, All, slice_get}
 use Rattle.swift_tree.specs.Outlines.{OutlineSeen, outline_of}
 use Rattle.macro_decls.specs.Macros.{IsDeclReadable}
 use Rattle.decl_parser.specs.Outline.{IsOutline}

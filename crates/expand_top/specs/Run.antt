@@ -1,5 +1,5 @@
 -- What one call of the program does. This project's own.
-use Rattle.std.specs.Prelude.{◌≡◌, ℕ, ◌<◌, ◌≤◌, ◌++◌, Option, Some, None, List, [], ◌∷◌, length, take, codes}
+use Rattle.std.specs.Prelude.{◌≡◌, ℕ, ◌<◌, ◌≤◌, Option, Some, None, List, [], length, take, codes}
 use Rattle.swift_base.specs.Told.{then_bytes, then_name, Rose}
 use Rattle.swift_base.specs.Outside.{SinkSeen, FilesSeen, HasContent}
 use Rattle.swift_base.specs.declared.plugins.Plugin.{Plugin}

@@ -1,5 +1,5 @@
 -- A run that is under way. This project's own.
-use Rattle.std.specs.Prelude.{◌≡◌, ◌<◌, ℕ, List, All, map}
+use Rattle.std.specs.Prelude.{◌≡◌, ◌<◌, List, All, map}
 use Rattle.swift_base.specs.Outside.{StarterSeen}
 use Rattle.swift_base.specs.declared.plugins.Plugin.{Plugin}
 use Rattle.plugin_messages.specs.declared.request.Request.{Request}

@@ -14,7 +14,6 @@ ghost use Rattle.plugin_messages.specs.Writable.{IsRequestWritable};
 ghost use Rattle.link_driver.specs.Driven as driven;
 ghost use Rattle.link_driver.specs.Driven.{IsSpent, driver_seen};
 ghost use Rattle.link_driver.specs.Links.{link_seen};
-ghost use Rattle.link_driver.specs.Ran.{HasRun};
 ghost use Rattle.link_driver.specs.Told.{IsPut};
 ghost use Rattle.expand_top.specs.Asking.{IsStartable, asking_of, command_for};
 ghost use Rattle.expand_top.specs.UnderWay.{asked_with, IsAnswered, IsUnderWay};
@@ -41,16 +40,6 @@ fn command_for<'a>(plugins: &'a [Plugin], module_name: &[u8]) -> &'a str
         Ok(command) => command,
         Err(_) => unreachable!(),
     }
-}
-
-/// Nothing is asked.
-pub fn ask_nothing<P: Starter>(
-    alloc: Global,
-    starter: &P,
-) -> Result<Ran<P::Writer, P::Reader>, AllocError>
-    ensures { IfOk result (λ ran. HasRun [] (P.seen starter.now) (map (link_seen P.Writer.seen P.Reader.seen) ran.links.items) ran.unstarted.items (P.seen starter.now)) }
-{
-    finish(Driver::new(alloc))
 }
 
 // What was done so far, and the outcomes that came.

@@ -16,7 +16,7 @@ ghost use Rattle.expand_top.specs.Means.{meaning_seen, IsSound, IsSoundSource};
 ghost use Rattle.expand_top.specs.Run.{IsDelivered, GainsAll, GainsFront, ReadsSource, ReadsNext, ReadsInputs, IsShort, IsRefused, IsUnwritten, Expands, usage};
 ghost use Rattle.expand_top.specs.Promises.{AskedOnce, LinksServe, Starts, StopsHaveCause, FailedStartsHaveCause, KeepsBytes, StatusHasCause};
 
-use crate::asking::{Answered, ask_nothing, expand_source};
+use crate::asking::{Answered, expand_source};
 use crate::command::{Named, named_in, named_plugins};
 use crate::ended::{Ended, Inputs, SourceRead};
 use crate::meaning::{Meaning, meaning_of};
@@ -141,6 +141,19 @@ fn expanded_with<W: Drop, R: Drop>(ran: Ran<W, R>, output: Output) -> Expansion<
     }
 }
 
+// A refusal is written, and nothing is asked.
+fn nothing_asked<W: Drop, R: Drop>(alloc: Global, output: Output) -> Expansion<W, R>
+    ensures links { result.links.items ≡ [] }
+    ensures unstarted { result.unstarted.items ≡ [] }
+    ensures output { result.output ≡ output }
+{
+    Expansion {
+        links: Vec::new(alloc),
+        unstarted: Vec::new(alloc),
+        output,
+    }
+}
+
 // What is asked and written for a source.
 fn expand_buffer<P: Starter>(
     alloc: Global,
@@ -176,7 +189,7 @@ fn expand_meaning<P: Starter>(
         (asking_of (map (link_seen P.Writer.seen P.Reader.seen) e.links.items) e.unstarted.items (P.seen starter.old) (P.seen starter.new)) (output_seen e.output)) }
 {
     match means {
-        Meaning::Refused(output) => Ok(expanded_with(ask_nothing(alloc, starter)?, output)),
+        Meaning::Refused(output) => Ok(nothing_asked(alloc, output)),
         Meaning::Means(source, macros) => {
             expand_buffer(alloc, starter, name, plugins, source, &macros)
         }

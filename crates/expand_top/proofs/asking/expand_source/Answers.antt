@@ -78,9 +78,8 @@ rounds-preserved g c =
     subst (λ (ps : List Plugin). Contains (asked_with macros ps source table) first) (sym c.list.ensures) (first_asked macros plugins table source first others missing) in
     let asks_others : All (Contains (asked_with macros c.list.result.now source table)) c.deref.result.now =
     subst (λ (ps : List Plugin). All (Contains (asked_with macros ps source table)) c.deref.result.now) (sym c.list.ensures)
-    (subst (λ (requests : List Request). All (Contains (asked_with macros plugins source table)) requests) (sym c.deref.ensures.value) (others_asked macros plugins table source first others missing)) in
-    (
+    (subst (λ (requests : List Request). All (Contains (asked_with macros plugins source table)) requests) (sym c.deref.ensures.value) (others_asked macros plugins table source first others missing)) in (
       c.in_ok-way-in-Missing.ensures.sound,
       subst (λ (ps : List Plugin). IsUnderWay macros ps source before (driver_seen ws rs c.in_ok-way-in-Missing.way.driver) (look c.in_ok-way-in-Missing.way.table) (g.P.Starter.seen c.ask_round.new.starter)) c.list.ensures
-      (c.in_ok-way-in-Missing.ensures.under_way macros source before way asks_first asks_others),
+          (c.in_ok-way-in-Missing.ensures.under_way macros source before way asks_first asks_others),
     )

@@ -1,6 +1,6 @@
 use Rattle.std.proofs.Common.{◌≡◌, ◌<◌, ◌++◌, ◌∷◌, [], ap, arith, sym, refl, subst, map, ◌∙◌, None}
 use Rattle.std.proofs.lemmas.List.{map-append}
-use Rattle.link_driver.specs.Driven.{DriverSeen, bytes_of, done_seen, IsDriven, IsSpent}
+use Rattle.link_driver.specs.Driven.{DriverSeen, bytes_of, done_seen, IsDriven}
 use Rattle.link_driver.specs.declared.link.TheConstants.{MOST_BYTES}
 use Rattle.link_driver.specs.Links.{link_seen, running_seen}
 use Rattle.link_driver.proofs.Turns.{retired, same_seen, spent_retired}
