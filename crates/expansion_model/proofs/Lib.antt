@@ -26,3 +26,4 @@ pub mod KeptOfVisits
 pub mod Walks
 pub mod NearReplies
 pub mod StepsTell
+pub mod UniqueWords

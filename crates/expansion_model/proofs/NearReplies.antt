@@ -1,5 +1,5 @@
 -- The refusal of a reply that is too long to be read.
-use Rattle.std.proofs.Common.{◌≡◌, ◌∙◌, sym, refl, ap, ℕ, ◌<◌, List, length, Ok, Err}
+use Rattle.std.proofs.Common.{◌≡◌, ◌∙◌, sym, refl, ap, ℕ, List, length, Ok, Err}
 use Rattle.std.proofs.lemmas.Bool.{lt-ltb}
 use Rattle.decl_parser.specs.declared.fault.ParseKind.TheVariants.{SourceTooLarge}
 use Rattle.decl_parser.specs.declared.parse.TheConstants.{LONGEST_SOURCE}

@@ -1,12 +1,12 @@
 -- What a step says of the answer.
-use Rattle.std.proofs.Common.{◌≡◌, ◌∙◌, refl, sym, ap, subst, ℕ, Bool, true, false, if◌then◌else◌, List, [], ◌∷◌}
-use Rattle.std.specs.List.{filter, list_any}
+use Rattle.std.proofs.Common.{◌≡◌, ◌∙◌, refl, sym, ap, ℕ, Bool, true, false, if◌then◌else◌, List, [], ◌∷◌}
+use Rattle.std.specs.List.{filter}
 use Rattle.swift_base.specs.declared.plugins.Plugin.{Plugin}
 use Rattle.plugin_messages.specs.declared.request.Request.{Request}
 use Rattle.macro_decls.specs.declared.table.MacroDecl.{MacroDecl}
 use Rattle.expansion_model.specs.Answer.{answer_of, are_too_many, by_messages, lacks_outcome}
 use Rattle.expansion_model.specs.Buffers.{BufferSeen}
-use Rattle.expansion_model.specs.Steps.{StepSeen, Done, IsStep, Missing, by_missing, step_of}
+use Rattle.expansion_model.specs.Steps.{Done, IsStep, by_missing, step_of}
 use Rattle.expansion_model.specs.Table.{Look, is_missing}
 use Rattle.expansion_model.specs.Visit.{Found, visit}
 use Rattle.expansion_model.specs.declared.answer.Answer.{Answer}

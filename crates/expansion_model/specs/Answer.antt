@@ -1,5 +1,5 @@
 -- The answer for a source and a table of outcomes. This project's own.
-use Rattle.std.specs.Prelude.{ℕ, nat_lt, Bool, true, false, if◌then◌else◌, List, [], ◌∷◌, length}
+use Rattle.std.specs.Prelude.{ℕ, nat_lt, Bool, if◌then◌else◌, List, [], ◌∷◌, length}
 use Rattle.std.specs.List.{list_any}
 use Rattle.swift_base.specs.declared.plugins.Plugin.{Plugin}
 use Rattle.macro_decls.specs.declared.table.MacroDecl.{MacroDecl}

@@ -3,7 +3,6 @@ use Rattle.std.specs.Prelude.{ℕ, ◌&&◌, Bool, true, List, [], ◌∷◌, �
 use Rattle.std.specs.List.{list_any}
 use Rattle.std.specs.Str.{bytes_eq}
 use Rattle.swift_tree.specs.Outlines.{OutlineSeen, outline_of}
-use Rattle.unique_names.specs.declared.role.Role.{Role}
 use Rattle.unique_names.specs.declared.step.KeyStep.{KeyStep}
 use Rattle.unique_names.specs.Names.{discriminator_of}
 use Rattle.decl_parser.specs.Outline.{IsOutline}

@@ -1,8 +1,15 @@
 -- Laws of the visit of a source. This project's own.
-use Rattle.std.specs.Prelude.{◌≡◌, ℕ, false, List, [], All, length, map}
+use Rattle.std.specs.Prelude.{◌≡◌, ℕ, false, List, [], All, length, map, Ok}
 use Rattle.std.specs.List.{Contains}
 use Rattle.swift_base.specs.declared.place.Span.{Span}
 use Rattle.swift_base.specs.declared.plugins.Plugin.{Plugin}
+use Rattle.swift_lexer.specs.declared.token.Token.{Token}
+use Rattle.swift_tree.specs.Outlines.{OutlineSeen}
+use Rattle.swift_tree.specs.declared.outline.Shape.TheVariants.{File}
+use Rattle.decl_parser.specs.Outline.{IsOutline, name_bytes, read_tokens}
+use Rattle.unique_names.specs.Names.{discriminator_of}
+use Rattle.unique_names.specs.Unique.{IsUnique}
+use Rattle.unique_names.specs.declared.step.KeyStep.{KeyStep}
 use Rattle.plugin_messages.specs.declared.request.Request.{Request}
 use Rattle.plugin_messages.specs.Writable.{IsRequestWritable}
 use Rattle.macro_decls.specs.declared.table.MacroDecl.{MacroDecl}
@@ -59,3 +66,8 @@ replaced edit = record { start = edit.start; end = edit.end }
 abbrev pub EditsAreOfSites : Type 0
 EditsAreOfSites = (macros : List MacroDecl) (plugins : List Plugin) (table : Look) (source : BufferSeen) → lacks_outcome table (visit macros plugins table source) ≡ false
     → (visit macros plugins table source).messages ≡ [] → map replaced (visit macros plugins table source).edits ≡ spans_of (buffer_sites macros plugins source)
+
+-- no word of an accepted file is a unique name of a request
+abbrev pub WordsAreNotUnique : Type 0
+WordsAreNotUnique = (text : List ℕ) (seen : OutlineSeen) (tokens : List Token) → IsOutline text File (Ok seen) → read_tokens text ≡ Ok tokens
+    → (token : Token) → Contains tokens token → (key : List KeyStep) → IsUnique (discriminator_of key) (name_bytes text token.class token) → ⊥

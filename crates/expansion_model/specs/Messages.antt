@@ -6,7 +6,6 @@ use Rattle.expansion_model.specs.Buffers.{BufferSeen}
 use Rattle.expansion_model.specs.declared.message.Message.{Message}
 use Rattle.expansion_model.specs.declared.message.MessageText.{MessageText}
 use Rattle.expansion_model.specs.declared.message.MessageText.TheVariants as says
-use Rattle.result_reader.specs.declared.fault.ResultFault.{ResultFault}
 use Rattle.result_reader.specs.declared.fault.ResultKind.{ResultKind}
 use Rattle.result_reader.specs.declared.fault.ResultKind.TheVariants as refused
 

@@ -1,5 +1,5 @@
 -- What is still to be asked for a source, or its answer. This project's own.
-use Rattle.std.specs.Prelude.{◌≡◌, ℕ, Bool, true, false, if◌then◌else◌, List, [], ◌∷◌, filter}
+use Rattle.std.specs.Prelude.{◌≡◌, ℕ, if◌then◌else◌, List, [], ◌∷◌, filter}
 use Rattle.swift_base.specs.declared.plugins.Plugin.{Plugin}
 use Rattle.macro_decls.specs.declared.table.MacroDecl.{MacroDecl}
 use Rattle.plugin_messages.specs.declared.request.Request.{Request}

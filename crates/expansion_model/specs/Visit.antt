@@ -1,8 +1,7 @@
 -- The visit of a buffer: what is asked, said and replaced, by recursion into replies, over one table of outcomes. This
 -- project's own, after SE-0382 and SE-0397.
-use Rattle.std.specs.Prelude.{ℕ, zero, suc, Bool, true, false, if◌then◌else◌, not, Option, Some, None, Result, Ok, Err, List, [], ◌∷◌, ◌++◌, codes, length, map, filter}
+use Rattle.std.specs.Prelude.{ℕ, zero, suc, Bool, true, false, if◌then◌else◌, not, Option, Some, None, Ok, Err, List, [], ◌∷◌, ◌++◌, codes, length, map, filter}
 use Rattle.std.specs.List.{flat_map}
-use Rattle.swift_base.specs.declared.place.Span.{Span}
 use Rattle.swift_base.specs.declared.plugins.Plugin.{Plugin}
 use Rattle.swift_tree.specs.Outlines.{ItemsSeen, none, cons, OutlineSeen}
 use Rattle.unique_names.specs.declared.role.Role.{Role}
@@ -21,7 +20,7 @@ use Rattle.result_reader.specs.declared.reading.Reading.{Reading}
 use Rattle.result_reader.specs.declared.fault.ResultFault.{ResultFault}
 use Rattle.result_splice.specs.Edits.{edited_text}
 use Rattle.result_splice.specs.declared.edit.Edit.{Edit}
-use Rattle.expansion_model.specs.Buffers.{BufferSeen, key_of, pair_of, is_among, reply_name, reply_buffer}
+use Rattle.expansion_model.specs.Buffers.{BufferSeen, key_of, is_among, reply_name, reply_buffer}
 use Rattle.expansion_model.specs.BufferSites.{buffer_sites}
 use Rattle.expansion_model.specs.Macros.{role_eq}
 use Rattle.expansion_model.specs.Messages.{message_at, message_in, refusal_text}

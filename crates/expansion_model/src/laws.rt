@@ -1,7 +1,7 @@
 // Laws of sites: a call of each brings it in as a fact.
 
 ghost use Rattle.expansion_model.specs.Spans.{SitesLieApart};
-ghost use Rattle.expansion_model.specs.Laws.{VisitsRepeat, AskedRequestsGrow, AnswersByAskedAlone, AskedByRules, RulesAreAsked, RequestsAreWritable, EditsCanBeMade, EditsAreOfSites};
+ghost use Rattle.expansion_model.specs.Laws.{VisitsRepeat, AskedRequestsGrow, AnswersByAskedAlone, AskedByRules, RulesAreAsked, RequestsAreWritable, EditsCanBeMade, EditsAreOfSites, WordsAreNotUnique};
 ghost use Rattle.expansion_model.specs.Readable.{AsksAreReadable};
 
 /// What is replaced of an accepted text lies in it: each use that is asked and each attribute of a macro holds a
@@ -47,4 +47,9 @@ pub fn requests_are_writable()
 pub fn edits_replace_sites()
     ensures made { EditsCanBeMade }
     ensures spans { EditsAreOfSites }
+{}
+
+/// No word of an accepted file is a unique name of a request, so what a macro makes of its own is not there yet.
+pub fn words_are_not_unique()
+    ensures { WordsAreNotUnique }
 {}

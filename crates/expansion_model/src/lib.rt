@@ -28,6 +28,7 @@ pub use expanding::{Step, expand_with};
 pub use laws::{
     answers_by_asked_alone, asked_by_rules, asked_requests_grow, asks_are_readable,
     edits_replace_sites, requests_are_writable, sites_lie_apart, visits_repeat,
+    words_are_not_unique,
 };
 pub use macros::plugin_for;
 pub use message::{Message, MessageText};

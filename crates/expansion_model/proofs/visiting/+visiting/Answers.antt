@@ -1,6 +1,5 @@
-use Rattle.std.proofs.Common.{◌≡◌, ◌∙◌, refl, sym, ap, subst, rules, arith, ℕ, ◌+◌, length, Option, Some, None, List, [], ◌∷◌, drop, get_or}
+use Rattle.std.proofs.Common.{◌≡◌, ◌∙◌, refl, sym, ap, subst, rules, arith, ℕ, ◌+◌, Option, Some, List, ◌∷◌, drop}
 use Rattle.std.specs.Option.{option_copied}
-use Rattle.plugin_messages.specs.declared.message.Diagnostic.{Diagnostic}
 use Rattle.plugin_messages.specs.declared.message.Outcome.{Outcome}
 use Rattle.std.specs.Prelude.{All, codes}
 use Rattle.std.proofs.lemmas.List.{drop_all, drop_more}
@@ -10,7 +9,7 @@ use Rattle.swift_base.specs.declared.refusal.Refusal.{Refusal}
 use Rattle.result_reader.specs.declared.fault.ResultFault.{ResultFault}
 use Rattle.result_reader.specs.declared.reading.Reading.{Reading}
 use Rattle.result_splice.specs.declared.edit.Edit.{Edit}
-use Rattle.expansion_model.specs.Buffers.{buffer_seen, key_of}
+use Rattle.expansion_model.specs.Buffers.{buffer_seen}
 use Rattle.expansion_model.specs.BufferSites.{offset_of}
 use Rattle.expansion_model.specs.Readable.{IsSiteReadable}
 use Rattle.expansion_model.specs.Requests.{place_of}

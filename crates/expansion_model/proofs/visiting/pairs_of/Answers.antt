@@ -1,8 +1,8 @@
-use Rattle.std.proofs.Common.{◌≡◌, ◌∙◌, sym, ap, append-nil, append_assoc, Some, None, List, ◌++◌, drop, get_or, ◌+◌}
+use Rattle.std.proofs.Common.{◌∙◌, sym, ap, append-nil, append_assoc, List, ◌++◌, drop, ◌+◌}
 use Rattle.std.specs.List.{flat_map}
 use Rattle.std.specs.Option.{option_copied}
 use Rattle.macro_decls.specs.declared.table.MacroDecl.{MacroDecl}
-use Rattle.expansion_model.specs.Visit.{pairs_in, pairs_of}
+use Rattle.expansion_model.specs.Visit.{pairs_in}
 use Rattle.expansion_model.specs.declared.buffer.Ancestor.{Ancestor}
 use Rattle.expansion_model.proofs.Walks.{past_the_end, one_further}
 use Rattle.expansion_model.proofs.visiting.pairs_of.Goals as goal
