@@ -98,11 +98,18 @@ fn put_site(alloc: Global, line: &mut String, site: &Site) -> Result<(), Fail> {
     Ok(line.push_str(";")?)
 }
 
+fn sites(alloc: Global, text: &str) -> Result<Vec<Site>, Fail> {
+    let source = source(alloc, text)?;
+    let macros = macros(alloc)?;
+    let plugins = plugins(alloc)?;
+    let sites = buffer_sites(alloc, &macros, plugins.list(), &source)?;
+    Ok(sites)
+}
+
 /// The sites of a text, one behind the other.
 fn sites_in(alloc: Global, text: &str) -> Result<String, Fail> {
-    let source = source(alloc, text)?;
     let mut line = String::new(alloc);
-    for site in &buffer_sites(alloc, &macros(alloc)?, plugins(alloc)?.list(), &source)? {
+    for site in &sites(alloc, text)? {
         put_site(alloc, &mut line, site)?;
     }
     Ok(line)
@@ -255,11 +262,17 @@ fn reply(alloc: Global, text: &str) -> Result<Outcome, Fail> {
     })
 }
 
+fn step(alloc: Global, text: &str, table: &Table) -> Result<Step, Fail> {
+    let source = source(alloc, text)?;
+    let macros = macros(alloc)?;
+    let plugins = plugins(alloc)?;
+    let step = expand_with(alloc, &source, &macros, &plugins, table)?;
+    Ok(step)
+}
+
 /// What is to be asked first, or the expanded file.
 fn step_in(alloc: Global, text: &str, table: &Table) -> Result<String, Fail> {
-    let source = source(alloc, text)?;
-    let step = expand_with(alloc, &source, &macros(alloc)?, &plugins(alloc)?, table)?;
-    match step {
+    match step(alloc, text, table)? {
         Step::Missing(first, _) => asked(alloc, &first),
         Step::Done(Answer::File(bytes)) => Ok(String::from_str(alloc, str_of(&bytes))?),
         Step::Done(_) => Ok(String::from_str(alloc, "no file")?),
