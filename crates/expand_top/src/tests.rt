@@ -873,6 +873,12 @@ fn expect_asked(rt: &impl Abort, ran: &Ran, count: usize) {
     assert_eq!(rt; ran.ended.links[0].asked.len(), count);
 }
 
+// One process was started, and was given these bytes.
+fn expect_given(rt: &impl Abort, ran: &Ran, frames: &[u8]) {
+    assert_eq!(rt; (ran.ended.links.len(), ran.ended.unstarted.len()), (1, 0));
+    assert_eq!(rt; ran.ended.links[0].writer.held(), frames);
+}
+
 // What a process was given: the greeting, and these requests.
 fn sent(alloc: Global, requests: &[&str]) -> Result<Vec<u8>, AllocError> {
     let mut frames = Vec::from_slice(alloc, GREETING.as_bytes())?;
@@ -890,7 +896,7 @@ fn nested_uses_answered_in_any_order(rt: HostRuntime) -> Result<(), Fail> {
     expect(&rt, &ran, 0, "let t = ((x1) + (x2))\n", "");
     expect_asked(&rt, &ran, 3);
     let frames = sent(alloc, &[TWICE_REQUEST, LEFT_REQUEST, RIGHT_REQUEST])?;
-    assert_eq!(rt; ran.ended.links[0].writer.held(), frames.as_slice());
+    expect_given(&rt, &ran, &frames);
     Ok(())
 }
 
@@ -904,7 +910,7 @@ fn nested_use_without_a_reply(rt: HostRuntime) -> Result<(), Fail> {
     expect(&rt, &ran, 1, "", line);
     expect_asked(&rt, &ran, 3);
     let frames = sent(alloc, &[TWICE_REQUEST, LEFT_REQUEST, RIGHT_REQUEST])?;
-    assert_eq!(rt; ran.ended.links[0].writer.held(), frames.as_slice());
+    expect_given(&rt, &ran, &frames);
     Ok(())
 }
 
