@@ -24,11 +24,7 @@ pub fn group_inside(element: &Element) -> Option<&[Element]>
 {
     match element {
         Element::Leaf(_) => None,
-        Element::Nest {
-            left: _,
-            inner,
-            right: _,
-        } => Some(inner),
+        Element::Nest(group) => Some(&group.inner),
     }
 }
 
@@ -39,11 +35,7 @@ fn inside_leaf(alloc: Global, text: &[u8], element: &Element) -> Option<Inside>
 {
     match element {
         Element::Leaf(_) => Some(nothing_inside(alloc)),
-        Element::Nest {
-            left: _,
-            inner: _,
-            right: _,
-        } => None,
+        Element::Nest(_) => None,
     }
 }
 
@@ -54,11 +46,8 @@ fn inside_of(alloc: Global, text: &[u8], element: &Element) -> Result<Inside, Al
 {
     match element {
         Element::Leaf(_) => Ok(nothing_inside(alloc)),
-        Element::Nest {
-            left: _,
-            inner,
-            right: _,
-        } => {
+        Element::Nest(group) => {
+            let inner = group.inner.as_slice();
             if is_simple(text, inner) {
                 return read_simple(alloc, text, inner);
             }

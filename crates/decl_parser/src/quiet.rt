@@ -81,11 +81,7 @@ fn is_leaf(element: &Element) -> bool
 {
     match element {
         Element::Leaf(_) => true,
-        Element::Nest {
-            left: _,
-            inner: _,
-            right: _,
-        } => false,
+        Element::Nest(_) => false,
     }
 }
 

@@ -25,11 +25,7 @@ pub fn mark_of(text: &[u8], element: &Element) -> Mark
 {
     match element {
         Element::Leaf(token) => mark_between(text, *token, token.end),
-        Element::Nest {
-            left,
-            inner: _,
-            right,
-        } => mark_between(text, *left, right.end),
+        Element::Nest(group) => mark_between(text, group.left, group.right.end),
     }
 }
 

@@ -21,11 +21,7 @@ fn front(element: &Element) -> Token
 {
     match element {
         Element::Leaf(token) => *token,
-        Element::Nest {
-            left,
-            inner: _,
-            right: _,
-        } => *left,
+        Element::Nest(group) => group.left,
     }
 }
 
@@ -107,11 +103,7 @@ fn end_at(element: &Element) -> u32
 {
     match element {
         Element::Leaf(token) => token.end,
-        Element::Nest {
-            left: _,
-            inner: _,
-            right,
-        } => right.end,
+        Element::Nest(group) => group.right.end,
     }
 }
 

@@ -82,10 +82,10 @@ pub fn shape_of(element: &Element) -> Shape<'_>
 {
     match element {
         Element::Leaf(token) => Shape::Leaf(*token),
-        Element::Nest { left, inner, right } => Shape::Nest {
-            left: *left,
-            inner,
-            right: *right,
+        Element::Nest(group) => Shape::Nest {
+            left: group.left,
+            inner: &group.inner,
+            right: group.right,
         },
     }
 }
@@ -185,12 +185,12 @@ fn put_tokens(text: &[u8], element: &Element, bytes: &mut Vec<u8>) -> Result<(),
 {
     match element {
         Element::Leaf(token) => put_token(text, *token, bytes),
-        Element::Nest { left, inner, right } => {
-            put_token(text, *left, bytes)?;
-            'inner: for part in inner.iter() {
+        Element::Nest(group) => {
+            put_token(text, group.left, bytes)?;
+            'inner: for part in group.inner.iter() {
                 put_tokens(text, part, bytes)?;
             }
-            put_token(text, *right, bytes)
+            put_token(text, group.right, bytes)
         }
     }
 }

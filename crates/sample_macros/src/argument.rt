@@ -156,10 +156,10 @@ fn shape_of(element: &Element) -> Shape<'_>
 {
     match element {
         Element::Leaf(token) => Shape::Leaf(*token),
-        Element::Nest { left, inner, right } => Shape::Nest {
-            left: *left,
-            inner,
-            right: *right,
+        Element::Nest(group) => Shape::Nest {
+            left: group.left,
+            inner: &group.inner,
+            right: group.right,
         },
     }
 }

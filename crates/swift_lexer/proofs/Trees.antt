@@ -1,23 +1,24 @@
 -- The equations of trees and forests.
-use Rattle.std.proofs.Common.{◌≡◌, ◌+◌, ◌<◌, length, get_or, drop, ℕ, List, sym, ap, ◌∙◌}
+use Rattle.std.proofs.Common.{◌≡◌, ◌+◌, ◌<◌, length, get_or, drop, ℕ, List, Box, sym, ap, ◌∙◌}
 use Rattle.std.proofs.lemmas.List.{at_drop_more, drop_all}
-use Rattle.std.specs.declared.vec.Vec.{Vec}
 use Rattle.std.specs.declared.alloc.Global.{Global}
 use Rattle.swift_lexer.specs.declared.token.Token.{Token}
 use Rattle.swift_lexer.specs.declared.element.Element.{Element}
+use Rattle.swift_lexer.specs.declared.element.Group.{Group}
 use Rattle.swift_lexer.specs.declared.element.Element.TheOpen.{Element-F}
 use Rattle.swift_lexer.specs.declared.element.Element.TheOpen as one_level
 use Rattle.swift_lexer.specs.declared.element.Element.TheVariants.{Leaf, Nest, rolls-Leaf, rolls-Nest}
-use Rattle.swift_lexer.specs.declared.element.Element.TheFolds.{fold-roll-Element}
-use Rattle.swift_lexer.specs.Trees.{Tree, leaf, nest, cons, forest_of, tree_step, tree_of}
+use Rattle.swift_lexer.specs.declared.element.Element.TheFolds.{fold-roll-Element, fold_out-Group}
+use Rattle.swift_lexer.specs.Trees.{Tree, leaf, nest, cons, forest_of, tree_step, group_step, tree_of}
 
 pub tree_of-leaf : (token : Token) → tree_of (Leaf token) ≡ leaf token
 unfolding tree_of
-tree_of-leaf token = ap tree_of (sym (rolls-Leaf token)) ∙ fold-roll-Element Tree tree_step (one_level.Leaf token)
+tree_of-leaf token = ap tree_of (sym (rolls-Leaf token)) ∙ fold-roll-Element Tree Tree tree_step group_step (one_level.Leaf token)
 
-pub tree_of-nest : (left : Token) (inner : Vec Element Global) (right : Token) → tree_of (Nest left inner right) ≡ nest left (forest_of inner.items) right
+pub tree_of-nest : (group : Box Group Global) → tree_of (Nest group) ≡ nest group.value.left (forest_of group.value.inner.items) group.value.right
 unfolding tree_of
-tree_of-nest left inner right = ap tree_of (sym (rolls-Nest left inner right)) ∙ fold-roll-Element Tree tree_step (one_level.Nest left inner right)
+tree_of-nest group =
+    ap tree_of (sym (rolls-Nest group)) ∙ fold-roll-Element Tree Tree tree_step group_step (one_level.Nest group) ∙ fold_out-Group Tree Tree tree_step group_step group.value
 
 -- the element at an index is the first tree of what stands from there on
 pub forest_of-drop : (elements : List Element) (i : ℕ) (element : Element) → i < length elements → element ≡ get_or elements i element → forest_of (drop i elements) ≡ cons (tree_of element) (forest_of (drop (i + 1) elements))

@@ -4,7 +4,7 @@ use Rattle.swift_lexer.specs.Bytes.{is_bracket_pair}
 use Rattle.swift_lexer.specs.declared.token.Class.TheVariants.{LeftBracket, RightBracket}
 use Rattle.swift_lexer.specs.declared.token.Token.{Token}
 use Rattle.swift_lexer.specs.declared.element.Element.{Element}
-use Rattle.swift_lexer.specs.declared.element.Element.TheOpen.{Element-F, Leaf, Nest}
+use Rattle.swift_lexer.specs.declared.element.Element.TheOpen.{Element-F, Group-F, Leaf, Nest}
 use Rattle.swift_lexer.specs.declared.element.Element.TheFolds.{fold-Element}
 
 mutual
@@ -55,13 +55,16 @@ abbrev pub forest_from : List Tree → Forest
 forest_from [] = none
 forest_from (tree ∷ trees) = cons tree (forest_from trees)
 
-abbrev pub tree_step : Element-F Tree → Tree
+abbrev pub tree_step : Element-F Tree Tree → Tree
 tree_step (Leaf token) = leaf token
-tree_step (Nest left inner right) = nest left (forest_from inner.items) right
+tree_step (Nest group) = group.value
+
+abbrev pub group_step : Group-F Tree Tree → Tree
+group_step group = nest group.left (forest_from group.inner.items) group.right
 
 -- what an element stands for
 unfoldable pub tree_of : Element → Tree
-tree_of = fold-Element Tree tree_step
+tree_of = fold-Element Tree Tree tree_step group_step
 
 -- what elements in a row stand for
 abbrev pub forest_of : List Element → Forest

@@ -7,13 +7,19 @@ pub const DEEPEST: usize = 200;
 
 /// A token outside brackets of its level, or a bracketed group.
 #[derive(Drop, Debug)]
+#[cycle(elements)]
 pub enum Element {
     Leaf(Token),
-    Nest {
-        left: Token,
-        inner: Vec<Element>,
-        right: Token,
-    },
+    Nest(Box<Group>),
+}
+
+/// A pair of brackets, and what stands between them.
+#[derive(Drop, Debug)]
+#[cycle(elements)]
+pub struct Group {
+    pub left: Token,
+    pub inner: Vec<Element>,
+    pub right: Token,
 }
 
 /// The kinds of fault of a text's brackets.

@@ -11,7 +11,7 @@ ghost use Rattle.swift_lexer.specs.declared.token.Token.{Token};
 ghost use Rattle.swift_lexer.specs.declared.token.Class.TheVariants.{LeftBracket, RightBracket};
 
 use crate::bytes::is_bracket_pair;
-use crate::element::{DEEPEST, Element, GroupFault, GroupKind};
+use crate::element::{DEEPEST, Element, Group, GroupFault, GroupKind};
 use crate::refusal::Refusal;
 use crate::token::{Class, Token};
 use std::alloc::{AllocError, Global};
@@ -118,21 +118,27 @@ fn close_group(
         return Err(refusal_at(right, GroupKind::Mismatched));
     }
     let mut used = mem::replace(&mut grouping.here, before);
-    let Ok(inner) = taken_out(alloc, &mut used) else {
+    let Ok(group) = group_of(alloc, left, &mut used, right) else {
         return Err(Refusal::Memory);
     };
     grouping.spares.push(used)?;
-    grouping.here.push(nest_of(left, inner, right))?;
+    grouping.here.push(group)?;
     Ok(())
 }
 
-/// The elements of the list, in no more room than they need.
-fn taken_out(alloc: Global, list: &mut Vec<Element>) -> Result<Vec<Element>, AllocError>
-    ensures { IfOk result (λ taken. taken.items ≡ list.old.items) }
+/// A group around the elements of the list, in no more room than they need.
+fn group_of(
+    alloc: Global,
+    left: Token,
+    list: &mut Vec<Element>,
+    right: Token,
+) -> Result<Element, AllocError>
+    ensures { IfOk result (λ element. tree_of element ≡ nest left (forest_of list.old.items) right) }
 {
-    let mut taken = Vec::with_capacity(alloc, list.len())?;
-    taken.append(list)?;
-    Ok(taken)
+    let mut inner = Vec::with_capacity(alloc, list.len())?;
+    inner.append(list)?;
+    let group = Box::new(alloc, Group { left, inner, right })?;
+    Ok(Element::Nest(group))
 }
 
 fn finish(grouping: Grouping) -> Result<Vec<Element>, Refusal<GroupFault>>
@@ -160,12 +166,6 @@ fn leaf_of(token: Token) -> Element
     ensures { tree_of result ≡ leaf token }
 {
     Element::Leaf(token)
-}
-
-fn nest_of(left: Token, inner: Vec<Element>, right: Token) -> Element
-    ensures { tree_of result ≡ nest left (forest_of inner.items) right }
-{
-    Element::Nest { left, inner, right }
 }
 
 /// Whether the right bracket is of the kind of the left one.

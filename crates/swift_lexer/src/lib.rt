@@ -16,7 +16,7 @@ mod strings;
 mod texts;
 mod token;
 
-pub use element::{DEEPEST, Element, GroupFault, GroupKind};
+pub use element::{DEEPEST, Element, Group, GroupFault, GroupKind};
 pub use grouping::group;
 pub use laws::{
     accepted_texts_are_utf8, groups_hold_the_tokens, one_group_outcome, one_token_outcome,

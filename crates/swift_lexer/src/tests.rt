@@ -228,10 +228,10 @@ fn groups_and_mismatches(rt: HostRuntime) {
 
 fn is_one_leaf_in_brackets(elements: &[Element]) -> bool {
     match elements {
-        [Element::Nest { left, inner, right }] => match inner.as_slice() {
-            [Element::Leaf(leaf)] => *left == token(Class::LeftBracket, 0, 1, 0)
+        [Element::Nest(group)] => match group.inner.as_slice() {
+            [Element::Leaf(leaf)] => group.left == token(Class::LeftBracket, 0, 1, 0)
                 && *leaf == token(Class::Word, 1, 2, 1)
-                && *right == token(Class::RightBracket, 2, 3, 2),
+                && group.right == token(Class::RightBracket, 2, 3, 2),
             _ => false,
         },
         _ => false,

@@ -8,4 +8,4 @@ pub returns-in-Leaf : goal.returns-in-Leaf
 returns-in-Leaf c = sym (ap (λ e. is_leaf (tree_of e)) c.in-Leaf.is ∙ ap is_leaf (tree_of-leaf c.in-Leaf.field-0))
 
 pub returns-in-Nest : goal.returns-in-Nest
-returns-in-Nest c = sym (ap (λ e. is_leaf (tree_of e)) c.in-Nest.is ∙ ap is_leaf (tree_of-nest c.in-Nest.left c.in-Nest.inner c.in-Nest.right))
+returns-in-Nest c = sym (ap (λ e. is_leaf (tree_of e)) c.in-Nest.is ∙ ap is_leaf (tree_of-nest c.in-Nest.field-0))

@@ -22,6 +22,6 @@ returns c =
     let popped = c.in-Some.ensures.items in
     let pushed = chosen _ _ _ _ c.push-2.ensures.items (ap is_ok c.in_ok-push-2.was) in
     let same : closes c.args.text.now c.in-Some.field-0.left c.args.right ≡ true = sym c.if-not-closes.ensures in
-    let is_nest = c.nest_of.ensures ∙ ap (λ items. nest c.in-Some.field-0.left (forest_of items) c.args.right) c.in-Ok.ensures ∙ ap (λ inner. nest c.in-Some.field-0.left (forest_of inner.items) c.args.right) c.replace-used.ensures.value in
-    let joined = pushed ∙ ap (λ before. before.items ++ c.nest_of.result ∷ []) c.replace-used.ensures.after in
+    let is_nest = c.in-Ok.ensures ∙ ap (λ list. nest c.in-Some.field-0.left (forest_of list.items) c.args.right) c.replace-used.ensures.value in
+    let joined = pushed ∙ ap (λ before. before.items ++ c.in-Ok.group ∷ []) c.replace-used.ensures.after in
     Passes-close c.args.text.now c.args.right c.args.grouping.now _ _ popped _ _ refl is_nest joined c.requires same
