@@ -4,4 +4,4 @@ use Rattle.decl_parser.specs.Levels.{insides}
 use Rattle.decl_parser.proofs.levels.+inside_of.Given as goal
 
 abbrev pub invariant-inner : goal.invariant-inner
-invariant-inner l = l.list.items ++ insides l.text (forest_of (drop l.part-index l.inner.items)) ≡ insides l.text (forest_of l.inner.items)
+invariant-inner l = l.list.items ++ insides l.text (forest_of (drop l.part-index l.inner)) ≡ insides l.text (forest_of l.inner)

@@ -9,5 +9,5 @@ returns-in-Leaf c = sym (ap (λ e. tree_inside (tree_of e)) c.in-Leaf.is ∙ ap 
 
 pub returns-in-Nest : goal.returns-in-Nest
 returns-in-Nest c =
-    ap (λ l. Some (forest_of l)) c.deref.ensures.value
-    ∙ sym (ap (λ e. tree_inside (tree_of e)) c.in-Nest.is ∙ ap tree_inside (tree_of-nest c.in-Nest.left c.in-Nest.inner c.in-Nest.right))
+    ap (λ l. Some (forest_of l)) (c.deref-in-Nest.ensures.value ∙ ap (λ group. group.inner.items) c.deref.ensures)
+    ∙ sym (ap (λ e. tree_inside (tree_of e)) c.in-Nest.is ∙ ap tree_inside (tree_of-nest c.in-Nest.group))

@@ -9,5 +9,5 @@ returns-in-Leaf c = c.mark_between.ensures ∙ sym (ap (λ e. mark_of c.args.tex
 
 pub returns-in-Nest : goal.returns-in-Nest
 returns-in-Nest c =
-    c.mark_between-in-Nest.ensures ∙ ap (λ group. mark_between c.args.text.now group.left c.deref-in-Nest.result.now.right.end) c.deref.ensures.value ∙ ap (λ group. mark_between c.args.text.now c.in-Nest.group.value.left group.right.end) c.deref-in-Nest.ensures.value
+    c.mark_between-in-Nest.ensures ∙ ap (λ group. mark_between c.args.text.now group.left c.deref-in-Nest.result.now.right.end) c.deref.ensures ∙ ap (λ group. mark_between c.args.text.now c.in-Nest.group.value.left group.right.end) c.deref-in-Nest.ensures
     ∙ sym (ap (λ e. mark_of c.args.text.now (tree_of e)) c.in-Nest.is ∙ ap (mark_of c.args.text.now) (tree_of-nest c.in-Nest.group))

@@ -10,4 +10,4 @@ returns-in-Leaf c = λ text. sym (ap (λ e. (mark_of text (tree_of e)).end) c.in
 
 pub returns-in-Nest : goal.returns-in-Nest
 unfolding mark_between
-returns-in-Nest c = λ text. ap (λ group. group.right.end) c.deref.ensures.value ∙ sym (ap (λ e. (mark_of text (tree_of e)).end) c.in-Nest.is ∙ ap (λ t. (mark_of text t).end) (tree_of-nest c.in-Nest.group))
+returns-in-Nest c = λ text. ap (λ group. group.right.end) c.deref.ensures ∙ sym (ap (λ e. (mark_of text (tree_of e)).end) c.in-Nest.is ∙ ap (λ t. (mark_of text t).end) (tree_of-nest c.in-Nest.group))

@@ -8,4 +8,4 @@ pub returns-in-Leaf : goal.returns-in-Leaf
 returns-in-Leaf c = sym (ap (λ e. front (tree_of e)) c.in-Leaf.is ∙ ap front (tree_of-leaf c.in-Leaf.token))
 
 pub returns-in-Nest : goal.returns-in-Nest
-returns-in-Nest c = ap (λ group. group.left) c.deref.ensures.value ∙ sym (ap (λ e. front (tree_of e)) c.in-Nest.is ∙ ap front (tree_of-nest c.in-Nest.group))
+returns-in-Nest c = ap (λ group. group.left) c.deref.ensures ∙ sym (ap (λ e. front (tree_of e)) c.in-Nest.is ∙ ap front (tree_of-nest c.in-Nest.group))

@@ -7,4 +7,4 @@ pub returns-in-Leaf : goal.returns-in-Leaf
 returns-in-Leaf c = ap tree_of c.in-Leaf.is ∙ tree_of-leaf _
 
 pub returns-in-Nest : goal.returns-in-Nest
-returns-in-Nest c = ap tree_of c.in-Nest.is ∙ tree_of-nest _ _ _ ∙ ap (λ row. nest c.in-Nest.left (forest_of row) c.in-Nest.right) (sym c.deref.ensures.value)
+returns-in-Nest c = {! c !}
