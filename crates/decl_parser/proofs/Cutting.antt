@@ -1,5 +1,5 @@
 -- Walks over declarations: what is left behind those that were read.
-use Rattle.std.proofs.Common.{◌≡◌, refl, ℕ, zero, suc, ◌+◌, ◌-◌, ◌<◌, ◌≤◌, ◌==◌, ◌∙◌, ap, sym, subst, arith, List, [], ◌∷◌, ◌++◌, length, drop, take, map, Result, Ok, Err, Bool, true, false, if◌then◌else◌}
+use Rattle.std.proofs.Common.{◌≡◌, refl, ℕ, zero, suc, ◌+◌, ◌-◌, ◌<◌, ◌≤◌, ◌==◌, ◌∙◌, ap, sym, arith, List, [], ◌∷◌, ◌++◌, length, drop, take, map, Ok, Err, true, false, if◌then◌else◌}
 use Rattle.std.proofs.Math.Dec.{eqb-suc-zero}
 use Rattle.std.proofs.lemmas.List.{map_push, length-take}
 use Rattle.swift_lexer.specs.declared.element.Element.{Element}
@@ -8,7 +8,6 @@ use Rattle.element_marks.specs.Levels.{level}
 use Rattle.swift_tree.specs.declared.item.Item.{Item}
 use Rattle.swift_tree.specs.Outlines.{ItemSeen, item_of}
 use Rattle.element_marks.specs.declared.mark.Mark.{Mark}
-use Rattle.element_marks.specs.Answers.{and_then}
 use Rattle.element_marks.specs.Sorts.{is_semicolon}
 use Rattle.element_marks.specs.Heads.{first_is}
 use Rattle.decl_parser.specs.declared.fault.ParseFault.{ParseFault}

@@ -1,10 +1,9 @@
 -- Walks over attributes: what is left behind those that were read.
-use Rattle.std.proofs.Common.{◌≡◌, refl, ℕ, zero, suc, ◌+◌, ◌-◌, ◌<◌, ◌∙◌, ap, sym, subst, arith, List, [], ◌∷◌, ◌++◌, drop, drop-drop, Result, Ok, Err}
+use Rattle.std.proofs.Common.{◌≡◌, refl, ℕ, zero, suc, ◌+◌, ◌<◌, ◌∙◌, ap, sym, subst, arith, List, [], ◌∷◌, ◌++◌, drop, drop-drop, Ok, Err}
 use Rattle.swift_tree.specs.declared.item.Attr.{Attr}
 use Rattle.element_marks.specs.declared.mark.Mark.{Mark}
 use Rattle.element_marks.specs.Answers.{and_then}
 use Rattle.element_marks.specs.Heads.{by_length, attribute_length}
-use Rattle.decl_parser.specs.declared.fault.ParseFault.{ParseFault}
 use Rattle.decl_parser.specs.declared.fault.ParseKind.TheVariants.{NotAnAttribute}
 use Rattle.decl_parser.specs.declared.inside.Inside.{Inside}
 use Rattle.decl_parser.specs.Faults.{fault}

@@ -1,11 +1,10 @@
 -- What stands inside the elements of a list, each by its place.
-use Rattle.std.proofs.Common.{◌≡◌, refl, ℕ, zero, suc, ◌+◌, ◌≤◌, ◌<◌, ◌==◌, ◌∙◌, ap, sym, arith, append_assoc, length, List, [], ◌∷◌, ◌++◌, drop, take, get_or, Option, Some, None, Result, Ok, Err, Bool, false}
+use Rattle.std.proofs.Common.{◌≡◌, refl, ℕ, zero, suc, ◌≤◌, ◌<◌, ◌==◌, ◌∙◌, ap, arith, append_assoc, length, List, [], ◌∷◌, ◌++◌, drop, take, get_or, Some, None, Ok, false}
 use Rattle.swift_lexer.specs.declared.element.Element.{Element}
-use Rattle.swift_lexer.specs.Trees.{Tree, Forest, leaf, nest, none, cons, tree_of, forest_of}
-use Rattle.swift_tree.specs.Outlines.{ItemSeen}
+use Rattle.swift_lexer.specs.Trees.{Tree, Forest, leaf, nest, tree_of, forest_of}
 use Rattle.decl_parser.specs.declared.inside.Inside.{Inside}
 use Rattle.decl_parser.specs.Insides.{nothing_inside}
-use Rattle.decl_parser.specs.Cut.{MembersRead, first_members, without}
+use Rattle.decl_parser.specs.Cut.{first_members, without}
 use Rattle.decl_parser.specs.Levels.{inside_of, insides, members_of, members, members_by, items_of_list, tree_inside, tree_size, forest_size}
 use Rattle.decl_parser.specs.Fragments.{one_group}
 

@@ -17,7 +17,7 @@ use Rattle.element_marks.proofs.Quieter.{Quiet, bare, bare_level, quiet_accessor
 use Rattle.decl_parser.specs.declared.inside.Inside.{Inside}
 use Rattle.decl_parser.specs.Attributes.{attr_of}
 use Rattle.decl_parser.specs.Bindings.{names_here, names_inside}
-use Rattle.decl_parser.specs.Found.{Found, all_within, found_from, found_in, found_step, joined, nothing, within}
+use Rattle.decl_parser.specs.Found.{all_within, found_from, found_in, found_step, joined, nothing, within}
 use Rattle.decl_parser.specs.Insides.{AreBlank, first_inside, nothing_inside}
 use Rattle.decl_parser.specs.Levels.{inside_of, insides, is_flat, is_leaf, is_simple}
 use Rattle.decl_parser.proofs.FoundWalks.{other_step}

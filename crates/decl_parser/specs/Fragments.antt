@@ -1,7 +1,7 @@
 -- Attributes, accessors and expressions as whole texts: this project's own, after SE-0382 and SE-0389.
 use Rattle.std.specs.Prelude.{ℕ, zero, suc, List, [], ◌∷◌, drop, length, Option, Some, None, Result, Ok, Err, true, if◌then◌else◌}
 use Rattle.swift_base.specs.declared.place.Span.{Span}
-use Rattle.swift_lexer.specs.Trees.{Tree, Forest, leaf, nest, none, cons}
+use Rattle.swift_lexer.specs.Trees.{Forest, none, cons}
 use Rattle.swift_tree.specs.declared.item.Attr.{Attr}
 use Rattle.swift_tree.specs.declared.outline.Shape.{Shape}
 use Rattle.swift_tree.specs.declared.outline.Shape.TheVariants as shape

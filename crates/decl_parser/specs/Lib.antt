@@ -3,6 +3,7 @@ pub mod Bindings
 pub mod Cut
 pub mod Faults
 pub mod Found
+pub mod Gathering
 pub mod Fragments
 pub mod Insides
 pub mod Laws

@@ -1,12 +1,11 @@
 -- The outline of a text, or its first fault: this project's own.
-use Rattle.std.specs.Prelude.{◌≡◌, ℕ, ◌+◌, ◌-◌, nat_lt, List, [], ◌∷◌, drop, length, slice_range, Result, Ok, Err, Bool, true, false, ◌&&◌, if◌then◌else◌}
-use Rattle.swift_base.specs.declared.place.Span.{Span}
+use Rattle.std.specs.Prelude.{◌≡◌, ℕ, ◌-◌, nat_lt, List, [], ◌∷◌, drop, length, slice_range, Result, Ok, Err, if◌then◌else◌}
 use Rattle.swift_lexer.specs.declared.token.Class.{Class}
 use Rattle.swift_lexer.specs.declared.token.Class.TheVariants.{Word, Quoted}
 use Rattle.swift_lexer.specs.declared.token.Token.{Token}
-use Rattle.swift_lexer.specs.Tokens.{Outcome, IsLexed}
+use Rattle.swift_lexer.specs.Tokens.{Outcome}
 use Rattle.swift_lexer.specs.Trees.{Forest, forest_tokens}
-use Rattle.swift_lexer.specs.Groups.{GroupOutcome, IsGrouped}
+use Rattle.swift_lexer.specs.Groups.{GroupOutcome}
 use Rattle.swift_lexer.proofs.SomeOutcome.{some_token_outcome}
 use Rattle.swift_tree.specs.declared.outline.Shape.{Shape}
 use Rattle.swift_tree.specs.declared.outline.Shape.TheVariants as shape

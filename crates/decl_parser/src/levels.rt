@@ -2,18 +2,17 @@
 
 ghost use Rattle.std.specs.Prelude.{◌≡◌, IfOk, IfSome, length, option_map};
 ghost use Rattle.swift_lexer.specs.Trees.{forest_of, tree_of};
-ghost use Rattle.element_marks.specs.Levels.{level};
-ghost use Rattle.element_marks.specs.Quiet.{is_quiet, may_list_accessors};
 ghost use Rattle.decl_parser.specs.Cut.{without};
 ghost use Rattle.decl_parser.specs.Insides.{AreBlank, listed_or};
 ghost use Rattle.decl_parser.specs.Levels.{inside_of, insides, read_inside, tree_inside};
 
 use crate::bindings::names_inside;
 use crate::found::{Findings, found_in};
+use crate::gathering::{finish, start};
 use crate::inside::{Inside, nothing_inside};
 use crate::lists::{add, behind, upto};
-use crate::quiet::{is_flat, is_simple, read_quiet, read_simple};
-use element_marks::{Mark, is_quiet, lists_accessors, marks_in, may_list_accessors, observes};
+use crate::quiet::{is_flat, is_simple, read_simple};
+use element_marks::{Mark, lists_accessors, observes};
 use std::alloc::{AllocError, Global};
 use swift_base::Listed;
 use swift_lexer::Element;
@@ -51,14 +50,16 @@ fn inside_of(alloc: Global, text: &[u8], element: &Element) -> Result<Inside, Al
             if is_simple(text, inner) {
                 return read_simple(alloc, text, inner);
             }
-            let mut list = Vec::with_capacity(alloc, inner.len())?;
+            let mut read = start(alloc, text, inner)?;
+            let mut rest = inner;
             'inner: for part in inner.iter() {
+                rest = behind(rest, 1);
                 match inside_leaf(alloc, text, part) {
-                    Some(inside) => list.push(inside)?,
-                    None => list.push(inside_of(alloc, text, part)?)?,
+                    Some(inside) => read.add(alloc, text, part, rest, inside)?,
+                    None => read.add(alloc, text, part, rest, inside_of(alloc, text, part)?)?,
                 }
             }
-            read_group(alloc, text, inner, &list)
+            finish(alloc, text, inner, read)
         }
     }
 }
@@ -129,26 +130,9 @@ pub fn listed_or<'a>(
     }
 }
 
-/// What stands inside a group, by the elements of its list and by what stands inside each.
-fn read_group(
-    alloc: Global,
-    text: &[u8],
-    elements: &[Element],
-    insides: &[Inside],
-) -> Result<Inside, AllocError>
-    requires { length insides.now ≡ length elements.now }
-    ensures { IfOk result (λ inside. inside ≡ read_inside (level text.now (forest_of elements.now)) insides.now) }
-{
-    if is_quiet(elements) && !may_list_accessors(text, elements) {
-        return read_quiet(alloc, text, elements, insides);
-    }
-    let marks = marks_in(alloc, text, elements)?;
-    read_inside(alloc, &marks, insides)
-}
-
 /// What stands inside a group, by the marks of its list.
 #[tactic(auto, unfolding(crate::specs::Levels::read_inside))]
-fn read_inside(alloc: Global, marks: &[Mark], insides: &[Inside]) -> Result<Inside, AllocError>
+pub fn read_inside(alloc: Global, marks: &[Mark], insides: &[Inside]) -> Result<Inside, AllocError>
     ensures { IfOk result (λ inside. inside ≡ read_inside marks.now insides.now) }
 {
     let Findings {

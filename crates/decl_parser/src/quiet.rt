@@ -22,27 +22,6 @@ use swift_base::{Listed, Span};
 use swift_lexer::Element;
 use swift_tree::{Attr, MacroUse};
 
-/// What stands inside a group, by the elements of its list.
-pub fn read_quiet(
-    alloc: Global,
-    text: &[u8],
-    elements: &[Element],
-    insides: &[Inside],
-) -> Result<Inside, AllocError>
-    requires quiet { is_quiet (forest_of elements.now) ≡ true }
-    requires no_accessor { may_list_accessors text.now (forest_of elements.now) ≡ false }
-    requires beside { length insides.now ≡ length elements.now }
-    ensures { IfOk result (λ inside. inside ≡ read_inside (level text.now (forest_of elements.now)) insides.now) }
-{
-    Ok(Inside {
-        names: Listed::from_vec(element_names(alloc, text, elements, insides)?),
-        observes: false,
-        lists_accessors: false,
-        uses: Listed::from_vec(all_uses(alloc, insides)?),
-        locals: Listed::from_vec(all_locals(alloc, insides)?),
-    })
-}
-
 /// What stands inside a group, by the elements of its list, of which none is a group.
 pub fn read_simple(alloc: Global, text: &[u8], elements: &[Element]) -> Result<Inside, AllocError>
     requires { is_simple text.now (forest_of elements.now) ≡ true }
@@ -106,7 +85,7 @@ fn element_names(
 }
 
 /// Adds the names that an element gives, behind which `others` stand, and inside which the first of `insides` does.
-fn add_element_names(
+pub fn add_element_names(
     names: &mut Vec<Span>,
     text: &[u8],
     element: &Element,
@@ -191,7 +170,7 @@ pub fn all_locals(alloc: Global, insides: &[Inside]) -> Result<Vec<Attr>, AllocE
 
 // Most elements have none.
 
-fn add_uses(list: &mut Vec<MacroUse>, uses: &[MacroUse]) -> Result<(), AllocError>
+pub fn add_uses(list: &mut Vec<MacroUse>, uses: &[MacroUse]) -> Result<(), AllocError>
     ensures { OnOk result (list.new.items ≡ list.old.items ++ uses.now) }
 {
     if uses.is_empty() {
@@ -200,7 +179,7 @@ fn add_uses(list: &mut Vec<MacroUse>, uses: &[MacroUse]) -> Result<(), AllocErro
     list.extend_from_slice(uses)
 }
 
-fn add_locals(alloc: Global, list: &mut Vec<Attr>, attrs: &[Attr]) -> Result<(), AllocError>
+pub fn add_locals(alloc: Global, list: &mut Vec<Attr>, attrs: &[Attr]) -> Result<(), AllocError>
     ensures { OnOk result (list.new.items ≡ list.old.items ++ attrs.now) }
 {
     if attrs.is_empty() {

@@ -1,9 +1,9 @@
-use Rattle.std.proofs.Common.{◌≡◌, ◌<◌, ◌≤◌, ◌+◌, ◌-◌, ◌*◌, ℕ, List, length, map}
+use Rattle.std.proofs.Common.{◌≡◌, ◌+◌, ◌-◌, ◌*◌, length, map}
 use Rattle.swift_lexer.specs.Trees.{forest_of}
 use Rattle.swift_tree.specs.Outlines.{item_of}
 use Rattle.decl_parser.specs.Parts.{prefixed}
 use Rattle.decl_parser.specs.Cut.{cut_from}
-use Rattle.decl_parser.specs.Levels.{forest_size, insides, items_of_list, members}
+use Rattle.decl_parser.specs.Levels.{forest_size, insides, members}
 use Rattle.decl_parser.proofs.items.+items.Given as goal
 
 abbrev pub decreases-item_at : goal.decreases-item_at

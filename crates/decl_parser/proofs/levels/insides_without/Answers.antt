@@ -1,4 +1,4 @@
-use Rattle.std.proofs.Common.{◌≡◌, ◌∙◌, ◌++◌, drop, ap, sym, subst}
+use Rattle.std.proofs.Common.{◌∙◌, ◌++◌, drop, ap, sym}
 use Rattle.swift_lexer.specs.Trees.{forest_of}
 use Rattle.decl_parser.specs.Cut.{without}
 use Rattle.decl_parser.specs.Levels.{insides}
