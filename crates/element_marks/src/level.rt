@@ -13,7 +13,8 @@ use crate::marks::{joins, mark_of};
 use std::alloc::{AllocError, Global};
 use swift_lexer::Element;
 
-/// The marks of the elements of a list, which a memory can't hold where they are 2 ^ 32 or more.
+/// The marks of the elements of a list. A list of 2 ^ 32 elements or more, which no text that is read has, is answered
+/// as want of memory.
 #[tactic(auto, unfolding(crate::specs::Levels::level))]
 pub fn marks_in(alloc: Global, text: &[u8], elements: &[Element]) -> Result<Vec<Mark>, AllocError>
     ensures { IfOk result (λ marks. marks.items ≡ level text.now (forest_of elements.now)) }
