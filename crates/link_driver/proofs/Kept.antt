@@ -58,12 +58,23 @@ single [] is = absurd (omega (arith, is))
 single (payload ∷ []) is = (payload, refl)
 single (payload ∷ other ∷ more) is = absurd (omega (arith, is))
 
-last_replies : (count : ℕ) (payloads : List (List ℕ)) (reply : List ℕ) → 1 ≤ length payloads → HasGreeted count (payloads ++ reply ∷ []) → is_result reply ≡ true
-last_replies count [] reply some greeted = absurd (omega (arith, some))
-last_replies count (first ∷ more) reply some greeted =
-    let order : first ∷ (more ++ reply ∷ []) ≡ greeted.greeting ∷ greeted.replies = greeted.in_order in
+last_replies : (count : ℕ) (payloads later all : List (List ℕ)) (reply : List ℕ) → later ≡ reply ∷ [] → all ≡ payloads ++ later → 1 ≤ length payloads
+    → HasGreeted count all → is_result reply ≡ true
+last_replies count [] later all reply is whole some greeted = absurd (omega (arith, some))
+last_replies count (first ∷ more) later all reply is whole some greeted =
+    let order : greeted.greeting ∷ greeted.replies ≡ first ∷ (more ++ later) = sym greeted.in_order ∙ whole in
     let behind : greeted.replies ≡ more ++ reply ∷ [] = cc in
     last_of (λ (r : List ℕ). is_result r ≡ true) more reply (subst (λ (l : List (List ℕ)). Each (λ (r : List ℕ). is_result r ≡ true) l) behind greeted.each)
+
+came_once : (old new gained reply : List ℕ) (later : List (List ℕ)) (tail : Tail) → new ≡ old ++ gained → IsFrames gained later tail → later ≡ reply ∷ [] → Rest [] ≡ tail
+    → is_result reply ≡ true → Replies false (reply_outcome (plugin_message_of reply)) old new
+came_once old new gained reply later tail grows frames is none replies = record {
+  gained = gained;
+  payloads = reply ∷ [];
+  appended = grows;
+  read = subst (λ (t : Tail). IsFrames gained (reply ∷ []) t) (sym none) (subst (λ (p : List (List ℕ)). IsFrames gained p tail) is frames);
+  awaited_so = (reply, refl, record { replies = replies; says = refl });
+}
 
 gave_again : (link : RunningSeen) (closed : LinkSeen) (key : KeySteps) (payloads : List (List ℕ)) (gained : List ℕ) → EachListIsFrames → OneReading → FramesGoOn
     → IsFrames link.got payloads (Rest []) → length payloads ≡ length link.asked + 1 → closed.asked ≡ link.asked ++ key ∷ [] → closed.got ≡ link.got ++ gained
@@ -74,22 +85,26 @@ gave_again link closed key payloads gained some one goes frames all asked grows 
     let same = one closed.got gave.payloads (payloads ++ next.0) (Rest []) next.1 gave.frames
     (subst (λ (b : List ℕ). IsFrames b (payloads ++ next.0) next.1) (sym grows) (goes link.got gained [] payloads next.0 next.1 frames next.2)) in
     let reply = single next.0 (omega (arith, gave.all, count, all, ap length same.0, length-append payloads next.0)) in
-    let whole : gave.payloads ≡ payloads ++ reply.0 ∷ [] = same.0 ∙ ap (λ (l : List (List ℕ)). payloads ++ l) reply.1 in
-    let greeted : HasGreeted (suc (length link.asked)) (payloads ++ reply.0 ∷ []) =
-    subst (λ (p : List (List ℕ)). HasGreeted (suc (length link.asked)) p) whole (subst (λ (n : ℕ). AreReplies n gave.payloads) count gave.replies) in
+    let greeted : HasGreeted (suc (length link.asked)) gave.payloads = subst (λ (n : ℕ). AreReplies n gave.payloads) count gave.replies in
     none (reply_outcome (plugin_message_of reply.0))
-    (record {
-      gained = gained;
-      payloads = reply.0 ∷ [];
-      appended = grows;
-      read =
-          subst (λ (t : Tail). IsFrames gained (reply.0 ∷ []) t) (sym same.1) (subst (λ (p : List (List ℕ)). IsFrames gained p next.1) reply.1 next.2);
-      awaited_so = (
-        reply.0,
-        refl,
-        record { replies = last_replies (suc (length link.asked)) payloads reply.0 (omega (arith, all)) greeted; says = refl },
-      );
-    })
+    (came_once link.got closed.got gained reply.0 next.0 next.1 grows next.2 reply.1 same.1
+    (last_replies (suc (length link.asked)) payloads next.0 gave.payloads reply.0 reply.1 same.0 (omega (arith, all)) greeted))
+
+came_first : (old new gained reply : List ℕ) (payloads : List (List ℕ)) → old ≡ [] → new ≡ old ++ gained → IsFrames new payloads (Rest [])
+    → (greeted : HasGreeted 1 payloads) → greeted.replies ≡ reply ∷ [] → Replies true (reply_outcome (plugin_message_of reply)) old new
+came_first old new gained reply payloads none grows frames greeted is = record {
+  gained = gained;
+  payloads = payloads;
+  appended = grows;
+  read = subst (λ (b : List ℕ). IsFrames b payloads (Rest [])) (grows ∙ ap (λ (b : List ℕ). b ++ gained) none) frames;
+  awaited_so = (
+    greeted.greeting,
+    reply,
+    greeted.in_order ∙ ap (λ (l : List (List ℕ)). greeted.greeting ∷ l) is,
+    greeted.greets,
+    record { replies = (subst (λ (l : List (List ℕ)). Each (λ (r : List ℕ). is_result r ≡ true) l) is greeted.each).0; says = refl },
+  );
+}
 
 gave_first : (link : RunningSeen) (closed : LinkSeen) (key : KeySteps) (gained : List ℕ) → link.asked ≡ [] → link.got ≡ [] → closed.asked ≡ link.asked ++ key ∷ []
     → closed.got ≡ link.got ++ gained → GaveItsReplies closed → ¬ HasNoReply true link.got closed.got
@@ -97,20 +112,7 @@ gave_first link closed key gained none_asked none_got asked grows gave none =
     let count : length closed.asked ≡ 1 = ap length (asked ∙ ap (λ (l : List KeySteps). l ++ key ∷ []) none_asked) in
     let greeted : HasGreeted 1 gave.payloads = subst (λ (n : ℕ). AreReplies n gave.payloads) count gave.replies in
     let reply = single greeted.replies (omega (arith, gave.all, count, ap length greeted.in_order)) in
-    none (reply_outcome (plugin_message_of reply.0))
-    (record {
-      gained = gained;
-      payloads = gave.payloads;
-      appended = grows;
-      read = subst (λ (b : List ℕ). IsFrames b gave.payloads (Rest [])) (grows ∙ ap (λ (b : List ℕ). b ++ gained) none_got) gave.frames;
-      awaited_so = (
-        greeted.greeting,
-        reply.0,
-        greeted.in_order ∙ ap (λ (l : List (List ℕ)). greeted.greeting ∷ l) reply.1,
-        greeted.greets,
-        record { replies = (subst (λ (l : List (List ℕ)). Each (λ (r : List ℕ). is_result r ≡ true) l) reply.1 greeted.each).0; says = refl },
-      );
-    })
+    none (reply_outcome (plugin_message_of reply.0)) (came_first link.got closed.got gained reply.0 gave.payloads none_got grows gave.frames greeted reply.1)
 
 -- one more request of a process
 
