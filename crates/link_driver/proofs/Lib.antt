@@ -5,3 +5,4 @@ pub mod Runs
 pub mod Replied
 pub mod Tables
 pub mod Wanted
+pub mod Kept

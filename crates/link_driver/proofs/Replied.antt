@@ -63,6 +63,10 @@ pub greeting_stands : (greeting : List ℕ) (payloads replies : List (List ℕ))
     → greets_badly payloads ≡ false
 greeting_stands greeting payloads replies is greets = ap greets_badly is ∙ ap not greets
 
+pub greets_same : (payloads more : List (List ℕ)) → 0 < length payloads → greets_badly (payloads ++ more) ≡ greets_badly payloads
+greets_same [] more some = absurd (omega (arith, some))
+greets_same (greeting ∷ replies) more some = refl
+
 plus_one : (n : ℕ) → n + 1 ≡ suc n
 plus_one n = omega arith
 

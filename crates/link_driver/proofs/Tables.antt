@@ -24,13 +24,9 @@ use Rattle.link_driver.specs.Requests.{Wanted}
 use Rattle.swift_base.specs.Outside.{StarterSeen}
 use Rattle.link_driver.specs.Told.{payload_outcome, TellsRunning, TellsAny, running_keys, driver_keys, HasTable, IsPut}
 use Rattle.link_driver.proofs.Turns.{each_more, bytes_more}
-use Rattle.link_driver.proofs.Replied.{begins_with, get_front, get_last, neither, and_no, not_last, greeting_stands}
+use Rattle.link_driver.proofs.Replied.{begins_with, get_front, get_last, neither, and_no, not_last, greeting_stands, greets_same}
 
 -- outcomes by payloads
-
-greets_same : (payloads more : List (List ℕ)) → 0 < length payloads → greets_badly (payloads ++ more) ≡ greets_badly payloads
-greets_same [] more some = absurd (omega (arith, some))
-greets_same (greeting ∷ replies) more some = refl
 
 replied_some : (payloads : List (List ℕ)) (place : ℕ) (too_long : Bool) (stop : Stop) → place < length payloads
     → replied (slice_get payloads place) too_long stop ≡ option_map (λ payload. reply_outcome (plugin_message_of payload)) (slice_get payloads place)
@@ -123,7 +119,7 @@ running_stays table after (Some link) same told = record {
 
 -- keys
 
-in_links : (links failed running : List KeySteps) (k : KeySteps) → Contains links k → Contains ((links ++ failed) ++ running) k
+pub in_links : (links failed running : List KeySteps) (k : KeySteps) → Contains links k → Contains ((links ++ failed) ++ running) k
 in_links links failed running k is_in = Contains-append_left (links ++ failed) running k (Contains-append_left links failed k is_in)
 
 in_failed : (links failed running : List KeySteps) (k : KeySteps) → Contains failed k → Contains ((links ++ failed) ++ running) k
@@ -370,6 +366,12 @@ retired_table table done link closed some one goes is has =
       room = room_less done.links closed done.room has.room;
     }
 
+-- and its keys were asked before
+pub retired_keys : (done : DriverSeen) (link : RunningSeen) (closed : LinkSeen) → IsRetired link false closed → (key : KeySteps)
+    → Contains (driver_keys (record done { links = done.links ++ closed ∷ []; room = done.room - length closed.got; running = None })) key
+    → Contains (driver_keys (record done { running = Some link })) key
+retired_keys done link closed is key is_in = (moves_closed done.links (failed_keys done.unstarted) link.asked closed is.asked).back key is_in
+
 ended_spent : (done : DriverSeen) (closed : LinkSeen) (o : Option Outcome) → StopHasCause closed.reader (length closed.got) closed.stop → IsLastOf closed o
     → o ≡ None → IsSpent (with_link done closed)
 ended_spent done closed o stopped last none =
@@ -380,10 +382,10 @@ ended_spent done closed o stopped last none =
 earlier_stays : (table after : Look) (link : RunningSeen) → map after link.asked ≡ map table link.asked → TellsEarlier table link → TellsEarlier after link
 earlier_stays table after link same told = record { payloads = told.payloads; frames = told.frames; tells = same ∙ told.tells; each = told.each }
 
-ended_table : (table after : Look) (done : DriverSeen) (link : RunningSeen) (closed : LinkSeen) (key : KeySteps) (sent : List ℕ) (o : Option Outcome)
-    → EachListIsFrames → OneReading → FramesGoOn → IsPrepared table done link.asked → TellsEarlier table link → HasEnded link key sent closed → IsLastOf closed o
+ended_table : (table after : Look) (done : DriverSeen) (link : RunningSeen) (closed : LinkSeen) (key : KeySteps) (sent : List ℕ) (first : Bool) (o : Option Outcome)
+    → EachListIsFrames → OneReading → FramesGoOn → IsPrepared table done link.asked → TellsEarlier table link → HasEnded link key sent first closed → IsLastOf closed o
     → table key ≡ None → IsPut table key o after → HasTable after (with_link done closed)
-ended_table table after done link closed key sent o some one goes is told ended last none put =
+ended_table table after done link closed key sent first o some one goes is told ended last none put =
     let links = links_keys done.links in
     let failed = failed_keys done.unstarted in
     let old = (links ++ failed) ++ link.asked in
@@ -440,7 +442,7 @@ asked_table table after done next link key sent first o some one goes is told on
     (map_same table after link.asked (λ k is_in. stays k (in_running (links_keys done.links) (failed_keys done.unstarted) link.asked k is_in))))
     none puts)
 asked_table table after done next link key sent first o some one goes is told on (ends closed ended last same) none put =
-    subst (HasTable after) (sym same) (ended_table table after done link closed key sent o some one goes is told ended last none put)
+    subst (HasTable after) (sym same) (ended_table table after done link closed key sent first o some one goes is told ended last none put)
 
 pub asked_spent : (done next : DriverSeen) (link : RunningSeen) (key : KeySteps) (sent : List ℕ) (first : Bool) (o : Option Outcome)
     → IsAskedOf done link key sent first o next → o ≡ None → IsSpent next

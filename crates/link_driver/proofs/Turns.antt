@@ -153,7 +153,7 @@ ready_more requests wanted link next said goes ready of_module answered = record
 }
 
 process_ended : (requests : List Wanted) (wanted : Wanted) (link : RunningSeen) (closed : LinkSeen) → IsReady requests link → module_of wanted ≡ link.module_name
-    → HasEnded link (key_of wanted) (write_for requests wanted.request) closed → IsProcess requests wanted closed
+    → HasEnded link (key_of wanted) (write_for requests wanted.request) (is_first requests) closed → IsProcess requests wanted closed
 process_ended requests wanted link closed ready of_module ended = record {
   asked = ended.asked ∙ ap (λ l. l ++ key_of wanted ∷ []) ready.asked ∙ sym (keys_more requests wanted);
   of_module = of_same (requests ++ wanted ∷ []) link.module_name closed.module_name ended.module_name (each_more (λ (w : Wanted). module_of w ≡ link.module_name) requests wanted ready.of_module of_module);
@@ -190,10 +190,10 @@ pub as_answered : (link next : RunningSeen) (key other : KeySteps) (sent bytes :
 as_answered link next key other sent bytes first said same_key same_bytes is =
     subst (λ k. HasAnswered link k bytes first said next) same_key (subst (λ b. HasAnswered link key b first said next) same_bytes is)
 
-pub as_ended : (link : RunningSeen) (closed : LinkSeen) (key other : KeySteps) (sent bytes : List ℕ) → key ≡ other → sent ≡ bytes
-    → HasEnded link key sent closed → HasEnded link other bytes closed
-as_ended link closed key other sent bytes same_key same_bytes is =
-    subst (λ k. HasEnded link k bytes closed) same_key (subst (λ b. HasEnded link key b closed) same_bytes is)
+pub as_ended : (link : RunningSeen) (closed : LinkSeen) (key other : KeySteps) (sent bytes : List ℕ) (first : Bool) → key ≡ other → sent ≡ bytes
+    → HasEnded link key sent first closed → HasEnded link other bytes first closed
+as_ended link closed key other sent bytes first same_key same_bytes is =
+    subst (λ k. HasEnded link k bytes first closed) same_key (subst (λ b. HasEnded link key b first closed) same_bytes is)
 
 -- one more turn of a driver
 

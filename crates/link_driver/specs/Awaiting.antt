@@ -1,6 +1,6 @@
 -- What comes of waiting for an answer. This project's own.
 use Rattle.std.specs.Prelude.{◌≡◌, ℕ, ◌++◌, Bool, true, false, Option, Some, None, List, [], ◌∷◌}
-use Rattle.plugin_frames.specs.Frames.{Tail, Rest, IsFrames}
+use Rattle.plugin_frames.specs.Frames.{Tail, Rest, Length, IsFrames}
 use Rattle.plugin_frames.specs.Feeding.{IsWaiting}
 use Rattle.plugin_messages.specs.PluginOf.{plugin_message_of}
 use Rattle.plugin_messages.specs.declared.message.Outcome.{Outcome}
@@ -29,6 +29,20 @@ pub record HasRead (start got : List ℕ) (payloads : List (List ℕ)) (frames :
   pub appended : got ≡ start ++ gained
   pub read : IsFrames gained payloads frames
 
+-- since the bytes at the start came payloads, and then a length above the limit
+pub record HasMetLength (start got : List ℕ) : Type 0 where
+  pub gained : List ℕ
+  pub payloads : List (List ℕ)
+  pub len : ℕ
+  pub appended : got ≡ start ++ gained
+  pub read : IsFrames gained payloads (Length len)
+
+-- what was read, by what came of waiting
+abbrev pub HasReadSo : List ℕ → List ℕ → List (List ℕ) → Tail → Awaited → Type 0
+HasReadSo start got payloads frames awaited.Came = HasRead start got payloads frames
+HasReadSo start got payloads frames awaited.Other = HasMetLength start got
+HasReadSo start got payloads frames (awaited.Stopped stop) = HasRead start got payloads frames
+
 -- a payload that is a reply, and what it says
 pub record GivesReply (reply : List ℕ) (outcome : Outcome) : Type 0 where
   pub replies : is_result reply ≡ true
@@ -55,3 +69,11 @@ pub record Replies (is_first : Bool) (outcome : Outcome) (old new : List ℕ) : 
   pub appended : new ≡ old ++ gained
   pub read : IsFrames gained payloads (Rest [])
   pub awaited_so : AreAwaited is_first outcome payloads
+
+-- what came is not what was awaited
+abbrev pub HasNoReply : Bool → List ℕ → List ℕ → Type 0
+HasNoReply is_first old new = (outcome : Outcome) → ¬ Replies is_first outcome old new
+
+-- nor will it be, whatever follows
+abbrev pub NeverReplies : Bool → List ℕ → List ℕ → Type 0
+NeverReplies is_first old new = (more : List ℕ) → HasNoReply is_first old (new ++ more)

@@ -8,3 +8,4 @@ pub mod Awaiting
 pub mod Asking
 pub mod Lists
 pub mod Told
+pub mod Kept

@@ -3,8 +3,10 @@ ghost use Rattle.std.specs.Prelude.{◌≡◌, ◌<◌, ◌++◌, ◌∷◌, [],
 ghost use Rattle.swift_base.specs.Outside.{StarterSeen};
 ghost use Rattle.plugin_messages.specs.Writable.{IsRequestWritable};
 ghost use Rattle.std.specs.Bool.{Decides};
+ghost use Rattle.std.specs.List.{Contains};
 ghost use Rattle.link_driver.specs.LinkTable.{Look, IsRunTable};
-ghost use Rattle.link_driver.specs.Told.{HasTable, IsPut};
+ghost use Rattle.link_driver.specs.Told.{HasTable, IsPut, driver_keys};
+ghost use Rattle.link_driver.specs.Kept.{KeepsWhatReplies};
 ghost use Rattle.link_driver.specs.Links.{KeySteps, RunningSeen, link_seen, running_seen};
 ghost use Rattle.link_driver.specs.Requests.{Wanted, wanted_of};
 ghost use Rattle.link_driver.specs.Driven.{driver_seen, IsSound, IsSpent, IsDriven, bytes_of, running_bytes};
@@ -101,6 +103,9 @@ pub fn ask<P: Starter>(
         → IfOk result (λ _. P.seen starter.new ≡ P.seen starter.old) }
     ensures spent { (table : Look) → HasTable table (driver_seen P.Writer.seen P.Reader.seen driver)
         → IfOk result (λ a. a.outcome ≡ None → IsSpent (driver_seen P.Writer.seen P.Reader.seen a.driver)) }
+    ensures kept { (table : Look) → HasTable table (driver_seen P.Writer.seen P.Reader.seen driver)
+        → ¬ Contains (driver_keys (driver_seen P.Writer.seen P.Reader.seen driver)) request.now.key
+        → IfOk result (λ a. KeepsWhatReplies request.now.key (driver_seen P.Writer.seen P.Reader.seen a.driver).links) }
 {
     frames_go_on();
     one_reading();

@@ -1,6 +1,6 @@
 // What a payload in its place is.
-ghost use Rattle.std.specs.Prelude.{◌≡◌, Some, IfOk};
-ghost use Rattle.link_driver.specs.LinkTable.{reply_outcome, is_capability, greets_badly};
+ghost use Rattle.std.specs.Prelude.{◌≡◌, Some, None, false, IfOk};
+ghost use Rattle.link_driver.specs.LinkTable.{reply_outcome, is_capability, is_result, greets_badly};
 ghost use Rattle.link_driver.specs.Awaiting.{GivesReply};
 ghost use Rattle.plugin_frames.specs.Cutting.{payloads_of};
 ghost use Rattle.plugin_messages.specs.PluginOf.{plugin_message_of};
@@ -38,7 +38,8 @@ pub fn is_capability(alloc: Global, payload: &[u8]) -> Result<bool, AllocError>
 
 /// What the payload in a reply's place says, where it is one.
 pub fn result_in(alloc: Global, payload: &[u8]) -> Result<Option<Outcome>, AllocError>
-    ensures { IfOk result (λ said. (outcome : Outcome) → said ≡ Some outcome → GivesReply payload.now outcome) }
+    ensures said { IfOk result (λ said. (outcome : Outcome) → said ≡ Some outcome → GivesReply payload.now outcome) }
+    ensures other { IfOk result (λ said. said ≡ None → is_result payload.now ≡ false) }
 {
     match reply_outcome(alloc, payload)? {
         Outcome::Reply { text, diagnostics } => Ok(Some(Outcome::Reply { text, diagnostics })),

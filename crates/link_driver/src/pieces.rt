@@ -16,6 +16,7 @@ pub fn read_piece<R: Source>(reader: &mut R, got: &mut Vec<u8>) -> Result<Option
     ensures more { IfOk result (λ stop. stop ≡ None
         → (length got.old.items ≤ MOST_BYTES) × (length got.old.items < length got.new.items) × HasNotStopped (R.seen reader.new)) }
     ensures cause { IfOk result (λ stop. Tells stop (StopHasCause (R.seen reader.new) (length got.new.items))) }
+    ensures stays { IfOk result (λ stop. Tells stop (λ _. got.new.items ≡ got.old.items)) }
     ensures gains { IfOk result (λ _. Gains (R.seen reader.old) got.old.items (R.seen reader.new) got.new.items) }
 {
     if got.len() > MOST_BYTES {

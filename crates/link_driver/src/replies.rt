@@ -1,15 +1,17 @@
 // Awaiting the answers to what was written.
-ghost use Rattle.std.specs.Prelude.{◌≡◌, ◌≤◌, ◌++◌, ℕ, List, Some, None, true, false, length, IfOk};
+ghost use Rattle.std.specs.Prelude.{◌≡◌, ◌<◌, ◌≤◌, ◌++◌, ℕ, List, Some, None, true, false, length, IfOk};
 ghost use Rattle.swift_base.specs.Told.{Tells};
 ghost use Rattle.plugin_frames.specs.Cutting.{payloads_of};
 ghost use Rattle.link_driver.specs.Links.{StopHasCause, HasNotStopped, Gains};
 ghost use Rattle.link_driver.specs.LinkTable.{greets_badly};
-ghost use Rattle.link_driver.specs.Awaiting.{stop_of, stop_in, HasRead, IsSoleReply, Replies};
+ghost use Rattle.link_driver.specs.Awaiting.{stop_of, stop_in, HasRead, HasReadSo, IsSoleReply, Replies, HasNoReply, NeverReplies};
 
 use crate::link::Stop;
 use crate::messages::{greets_badly, result_in};
 use crate::pieces::{behind, read_piece};
-use plugin_frames::{FrameReader, Refusal as FrameRefusal, frames_are_read, frames_go_on};
+use plugin_frames::{
+    FrameReader, Refusal as FrameRefusal, frames_are_read, frames_go_on, one_reading,
+};
 use plugin_messages::Outcome;
 use std::alloc::{AllocError, Global};
 use swift_base::Source;
@@ -50,8 +52,9 @@ fn await_payloads<R: Source>(
     ensures gains { IfOk result (λ _. Gains (R.seen reader.old) got.old.items (R.seen reader.new) got.new.items) }
     ensures grows { IfOk result (λ _. (more : List (List ℕ)) × (payloads_of payloads.new.items ≡ payloads_of payloads.old.items ++ more)) }
     ensures enough { IfOk result (λ a. a ≡ Awaited.Came → count ≤ length payloads.new.items) }
+    ensures few { IfOk result (λ a. Tells (stop_of a) (λ _. length payloads.new.items < count)) }
     ensures read { (start : List ℕ) → HasRead start got.old.items (payloads_of payloads.old.items) frames.old
-        → IfOk result (λ a. a ≡ Awaited.Came → HasRead start got.new.items (payloads_of payloads.new.items) frames.new) }
+        → IfOk result (HasReadSo start got.new.items (payloads_of payloads.new.items) frames.new) }
 {
     frames_go_on();
     'pieces: while payloads.len() < count {
@@ -74,7 +77,8 @@ fn sole_reply(
     frames: &FrameReader,
     payloads: &[Vec<u8>],
 ) -> Result<Option<Outcome>, AllocError>
-    ensures { IfOk result (λ said. (outcome : Outcome) → said ≡ Some outcome → IsSoleReply (payloads_of payloads.now) frames.now outcome) }
+    ensures said { IfOk result (λ said. (outcome : Outcome) → said ≡ Some outcome → IsSoleReply (payloads_of payloads.now) frames.now outcome) }
+    ensures other { IfOk result (λ said. said ≡ None → (outcome : Outcome) → ¬ IsSoleReply (payloads_of payloads.now) frames.now outcome) }
 {
     let [payload] = payloads else {
         return Ok(None);
@@ -97,8 +101,12 @@ fn await_result<R: Source>(
     ensures cause { IfOk result (λ a. Tells (stop_in a) (StopHasCause (R.seen reader.new) (length got.new.items))) }
     ensures gains { IfOk result (λ _. Gains (R.seen reader.old) got.old.items (R.seen reader.new) got.new.items) }
     ensures replies { IfOk result (λ a. (outcome : Outcome) → a ≡ Response.Reply outcome → Replies false outcome got.old.items got.new.items) }
+    ensures other { IfOk result (λ a. a ≡ Response.Other → NeverReplies false got.old.items got.new.items) }
+    ensures stopped { IfOk result (λ a. Tells (stop_in a) (λ _. HasNoReply false got.old.items got.new.items)) }
 {
     frames_are_read();
+    frames_go_on();
+    one_reading();
     let mut frames = FrameReader::new(alloc);
     let mut payloads = Vec::new(alloc);
     match await_payloads(reader, got, &mut frames, &mut payloads, 1)? {
@@ -123,8 +131,12 @@ fn await_both<R: Source>(
     ensures cause { IfOk result (λ a. Tells (stop_in a) (StopHasCause (R.seen reader.new) (length got.new.items))) }
     ensures gains { IfOk result (λ _. Gains (R.seen reader.old) got.old.items (R.seen reader.new) got.new.items) }
     ensures replies { IfOk result (λ a. (outcome : Outcome) → a ≡ Response.Reply outcome → Replies true outcome got.old.items got.new.items) }
+    ensures other { IfOk result (λ a. a ≡ Response.Other → NeverReplies true got.old.items got.new.items) }
+    ensures stopped { IfOk result (λ a. Tells (stop_in a) (λ _. HasNoReply true got.old.items got.new.items)) }
 {
     frames_are_read();
+    frames_go_on();
+    one_reading();
     let mut frames = FrameReader::new(alloc);
     let mut payloads = Vec::new(alloc);
     match await_payloads(reader, got, &mut frames, &mut payloads, 1)? {
@@ -161,6 +173,8 @@ pub fn await_reply<R: Source>(
     ensures cause { IfOk result (λ a. Tells (stop_in a) (StopHasCause (R.seen reader.new) (length got.new.items))) }
     ensures gains { IfOk result (λ _. Gains (R.seen reader.old) got.old.items (R.seen reader.new) got.new.items) }
     ensures replies { IfOk result (λ a. (outcome : Outcome) → a ≡ Response.Reply outcome → Replies is_first outcome got.old.items got.new.items) }
+    ensures other { IfOk result (λ a. a ≡ Response.Other → NeverReplies is_first got.old.items got.new.items) }
+    ensures stopped { IfOk result (λ a. Tells (stop_in a) (λ _. HasNoReply is_first got.old.items got.new.items)) }
 {
     if is_first {
         return await_both(alloc, reader, got);

@@ -1,10 +1,11 @@
 // Processes that are asked nothing more.
 ghost use Rattle.std.specs.Prelude.{◌≡◌, ◌++◌, ◌∷◌, [], ◌-◌, List, Some, None, length, IfOk};
 ghost use Rattle.swift_base.specs.Outside.{StarterSeen};
-ghost use Rattle.link_driver.specs.Links.{RunningSeen, HasNotStopped, running_seen};
+ghost use Rattle.std.specs.List.{Contains};
+ghost use Rattle.link_driver.specs.Links.{KeySteps, RunningSeen, HasNotStopped, running_seen};
 ghost use Rattle.link_driver.specs.Requests.{Wanted};
 ghost use Rattle.link_driver.specs.LinkTable.{Look};
-ghost use Rattle.link_driver.specs.Told.{HasTable};
+ghost use Rattle.link_driver.specs.Told.{HasTable, driver_keys};
 ghost use Rattle.link_driver.specs.Driven.{done_seen, driver_seen, IsSound, IsSpent, RunsFor, IsDriven};
 
 use crate::driver::{Done, Driver};
@@ -50,6 +51,8 @@ fn with_retired<W: Sink, R: Source>(
         → IfOk result (λ next. HasTable table (done_seen W.seen R.seen next None)) }
     ensures spent { IsSpent (done_seen W.seen R.seen done (Some (running_seen W.seen R.seen link)))
         → IfOk result (λ next. IsSpent (done_seen W.seen R.seen next None)) }
+    ensures keys { (key : KeySteps) → IfOk result (λ next. Contains (driver_keys (done_seen W.seen R.seen next None)) key
+        → Contains (driver_keys (done_seen W.seen R.seen done (Some (running_seen W.seen R.seen link)))) key) }
 {
     frames_go_on();
     one_reading();
@@ -87,6 +90,8 @@ pub fn keep_for<W: Sink, R: Source>(
         → IfOk result (λ next. IsDriven wanted before (driver_seen W.seen R.seen next) after) }
     ensures table { (table : Look) → HasTable table (driver_seen W.seen R.seen driver)
         → IfOk result (λ next. HasTable table (driver_seen W.seen R.seen next)) }
+    ensures keys { (key : KeySteps) → IfOk result (λ next. Contains (driver_keys (driver_seen W.seen R.seen next)) key
+        → Contains (driver_keys (driver_seen W.seen R.seen driver)) key) }
 {
     let Driver { done, running } = driver;
     let Some(link) = running else {

@@ -7,7 +7,9 @@ ghost use Rattle.link_driver.specs.Requests.{Wanted, wanted_of, bytes_for};
 ghost use Rattle.link_driver.specs.Driven.{done_seen, driver_seen, IsSound, IsSpent, IsDriven};
 ghost use Rattle.link_driver.specs.Asking.{IsAskedOf};
 ghost use Rattle.link_driver.specs.LinkTable.{Look};
-ghost use Rattle.link_driver.specs.Told.{HasTable, IsPut};
+ghost use Rattle.link_driver.specs.Told.{HasTable, IsPut, driver_keys};
+ghost use Rattle.link_driver.specs.Kept.{KeepsWhatReplies};
+ghost use Rattle.std.specs.List.{Contains};
 
 use crate::driver::{Asked, Done, Driver};
 use crate::frames::write_for;
@@ -119,6 +121,8 @@ pub fn ask_started<P: Starter>(
         → table request.now.key ≡ None → IfOk result (λ a. IsPut table request.now.key a.outcome after
         → HasTable after (driver_seen P.Writer.seen P.Reader.seen a.driver)) }
     ensures spent { IfOk result (λ a. a.outcome ≡ None → IsSpent (driver_seen P.Writer.seen P.Reader.seen a.driver)) }
+    ensures kept { ¬ Contains (driver_keys (done_seen P.Writer.seen P.Reader.seen done None)) request.now.key
+        → IfOk result (λ a. KeepsWhatReplies request.now.key (driver_seen P.Writer.seen P.Reader.seen a.driver).links) }
 {
     frames_are_read();
     frames_go_on();

@@ -6,7 +6,9 @@ use Rattle.link_driver.proofs.Turns.{left_over, asked_again, some_room}
 use Rattle.link_driver.proofs.Written.{by_one}
 use Rattle.link_driver.proofs.driver.ask.Goals as goal
 use Rattle.link_driver.specs.Requests.{bytes_for}
-use Rattle.link_driver.specs.Told.{HasTable}
+use Rattle.link_driver.specs.Told.{HasTable, driver_keys}
+use Rattle.std.specs.List.{Contains}
+use Rattle.link_driver.proofs.Kept.{keeps_links, asked_again_keeps}
 use Rattle.link_driver.proofs.Tables.{left_table, asked_again_table, asked_spent, filled}
 
 pub returns-then-is_spent-clause-driven : goal.returns-then-is_spent-clause-driven
@@ -90,3 +92,33 @@ returns-in-None-clause-again g c = λ link runs of_module.
     absurd (runs_none _ _ link runs
     (ap (λ (d : DriverSeen). d.running) (c.in_ok-driver.ensures.keeps link runs (of_module ∙ sym c.bytes.ensures)))
     (ap (option_map (running_seen g.P.Writer.Sink.seen g.P.Reader.Source.seen)) c.in-None.is))
+
+pub returns-then-is_spent-clause-kept : goal.returns-then-is_spent-clause-kept
+returns-then-is_spent-clause-kept g c = λ table has not_in.
+    keeps_links c.args.request.now.key (driver_seen g.P.Writer.Sink.seen g.P.Reader.Source.seen c.in_ok-driver.driver)
+    (λ is_in. not_in (c.in_ok-driver.ensures.keys _ is_in))
+
+pub returns-in-Some-clause-kept : goal.returns-in-Some-clause-kept
+returns-in-Some-clause-kept g c = λ table has not_in.
+    let ws = g.P.Writer.Sink.seen in
+    let rs = g.P.Reader.Source.seen in
+    let kept = c.in_ok-driver.driver in
+    let key = c.args.request.now.key in
+    by_one c.ask_running.result _ _
+    (λ next asked. asked_again_keeps table (done_seen ws rs kept.done None) (driver_seen ws rs next.driver) (running_seen ws rs c.in-Some.link) key
+    (bytes_for false c.args.request.now) next.outcome c.one_reading.ensures.some c.one_reading.ensures.one c.frames_go_on.ensures.rest
+    (subst (λ r. HasTable table (done_seen ws rs kept.done (option_map (running_seen ws rs) r))) c.in-Some.is (c.in_ok-driver.ensures.table table has))
+    (λ is_in. not_in (c.in_ok-driver.ensures.keys key
+    (subst (λ r. Contains (driver_keys (done_seen ws rs kept.done (option_map (running_seen ws rs) r))) key) (sym c.in-Some.is) is_in)))
+    asked)
+    c.ask_running.ensures.asked
+
+pub returns-in-None-clause-kept : goal.returns-in-None-clause-kept
+returns-in-None-clause-kept g c = λ table has not_in.
+    let ws = g.P.Writer.Sink.seen in
+    let rs = g.P.Reader.Source.seen in
+    let kept = c.in_ok-driver.driver in
+    let key = c.args.request.now.key in
+    c.ask_started.ensures.kept
+    (λ is_in. not_in (c.in_ok-driver.ensures.keys key
+    (subst (λ r. Contains (driver_keys (done_seen ws rs kept.done (option_map (running_seen ws rs) r))) key) (sym c.in-None.is) is_in)))

@@ -1,13 +1,14 @@
-use Rattle.std.proofs.Common.{◌≡◌, ◌<◌, ◌++◌, ◌∷◌, [], ap, arith, sym, refl, subst, map, ◌∙◌, None}
+use Rattle.std.proofs.Common.{◌≡◌, ◌<◌, ◌++◌, ◌-◌, ◌∷◌, [], length, ap, arith, sym, refl, subst, map, ◌∙◌, None}
+use Rattle.std.specs.List.{Contains}
 use Rattle.std.proofs.lemmas.List.{map-append}
 use Rattle.link_driver.specs.Driven.{DriverSeen, bytes_of, done_seen, IsDriven}
 use Rattle.link_driver.specs.declared.link.TheConstants.{MOST_BYTES}
-use Rattle.link_driver.specs.Links.{link_seen, running_seen}
+use Rattle.link_driver.specs.Links.{LinkSeen, link_seen, running_seen}
 use Rattle.link_driver.proofs.Turns.{retired, same_seen, spent_retired}
 use Rattle.link_driver.proofs.Written.{by_three}
 use Rattle.link_driver.proofs.retiring.with_retired.Goals as goal
-use Rattle.link_driver.specs.Told.{HasTable}
-use Rattle.link_driver.proofs.Tables.{retired_table}
+use Rattle.link_driver.specs.Told.{HasTable, driver_keys}
+use Rattle.link_driver.proofs.Tables.{retired_table, retired_keys}
 
 pub returns-clause-driven : goal.returns-clause-driven
 returns-clause-driven g c = λ wanted before after driven.
@@ -40,4 +41,18 @@ returns-clause-spent g c = λ spent.
     let many : MOST_BYTES < bytes_of (map seen c.args.done.closed.items ++ seen c.in_ok-closed.closed ∷ []) =
     spent_retired done (running_seen g.W.Sink.seen g.R.Source.seen c.args.link) (seen c.in_ok-closed.closed) c.in_ok-closed.ensures spent in
     omega (arith, now, many))
+    c.with_closed.ensures.closed c.with_closed.ensures.unstarted c.with_closed.ensures.room
+
+pub returns-clause-keys : goal.returns-clause-keys
+returns-clause-keys g c = λ key.
+    let seen = link_seen g.W.Sink.seen g.R.Source.seen in
+    let done = done_seen g.W.Sink.seen g.R.Source.seen c.args.done None in
+    by_three c.with_closed.result _ _ _ _
+    (λ next closed unstarted room is_in.
+    let one : LinkSeen = seen c.in_ok-closed.closed in
+    let after : DriverSeen = record done { links = done.links ++ one ∷ []; room = done.room - length one.got; running = None } in
+    retired_keys done (running_seen g.W.Sink.seen g.R.Source.seen c.args.link) one c.in_ok-closed.ensures key
+    (subst (λ (d : DriverSeen). Contains (driver_keys d) key)
+    (same_seen after (done_seen g.W.Sink.seen g.R.Source.seen next None)
+    (ap (map seen) closed ∙ map-append seen c.args.done.closed.items (c.in_ok-closed.closed ∷ [])) unstarted room refl) is_in))
     c.with_closed.ensures.closed c.with_closed.ensures.unstarted c.with_closed.ensures.room

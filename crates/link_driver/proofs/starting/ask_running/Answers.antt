@@ -14,5 +14,5 @@ pub returns-clause-asked : goal.returns-clause-asked
 returns-clause-asked g c =
     let seen = link_seen g.W.Sink.seen g.R.Source.seen in
     ends (seen c.in-Retired.link)
-    (as_ended _ _ _ _ _ _ c.in_ok-key.ensures.cases (c.deref.ensures.value ∙ c.in_ok-sent.ensures) (rw c.in-Retired.is at c.in_ok-link.ensures)) c.in_ok-outcome-in-Retired.ensures
+    (as_ended _ _ _ _ _ _ _ c.in_ok-key.ensures.cases (c.deref.ensures.value ∙ c.in_ok-sent.ensures) (rw c.in-Retired.is at c.in_ok-link.ensures)) c.in_ok-outcome-in-Retired.ensures
     (same_seen _ _ (ap (map seen) c.in_ok-done-in-Retired.ensures.closed ∙ map-append seen _ _) c.in_ok-done-in-Retired.ensures.unstarted c.in_ok-done-in-Retired.ensures.room refl)

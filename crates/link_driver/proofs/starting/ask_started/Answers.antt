@@ -9,6 +9,8 @@ use Rattle.link_driver.proofs.starting.ask_started.Goals as goal
 use Rattle.link_driver.specs.Requests.{bytes_for}
 use Rattle.link_driver.specs.Told.{HasTable}
 use Rattle.link_driver.proofs.Turns.{same_seen}
+use Rattle.link_driver.proofs.Kept.{keeps_links, asked_first_keeps}
+use Rattle.link_driver.specs.Kept.{KeepsWhatReplies}
 use Rattle.link_driver.proofs.Tables.{no_room, asked_spent, asked_first_table, vain_table}
 
 pub returns-in_ok-link-in-Ok-clause-driven : goal.returns-in_ok-link-in-Ok-clause-driven
@@ -66,3 +68,20 @@ returns-in_ok-done-in-Err-Failed-clause-table g c = λ table after some has none
 pub returns-in_ok-link-in-Ok-clause-spent : goal.returns-in_ok-link-in-Ok-clause-spent
 returns-in_ok-link-in-Ok-clause-spent g c =
     by_one c.ask_running.result _ _ (λ next asked none. asked_spent _ _ _ _ _ _ _ asked none) c.ask_running.ensures.asked
+
+pub returns-in_ok-link-in-Ok-clause-kept : goal.returns-in_ok-link-in-Ok-clause-kept
+returns-in_ok-link-in-Ok-clause-kept g c = λ not_in.
+    let ws = g.P.Writer.Sink.seen in
+    let rs = g.P.Reader.Source.seen in
+    let made = c.in_ok-link-in-Ok.ensures in
+    by_one c.ask_running.result _ _
+    (λ next asked. asked_first_keeps (done_seen ws rs c.args.done None) (driver_seen ws rs next.driver) (running_seen ws rs c.in_ok-link-in-Ok.link)
+    c.args.request.now.key (bytes_for true c.args.request.now) next.outcome made.asked made.got not_in asked)
+    c.ask_running.ensures.asked
+
+pub returns-in_ok-done-in-Err-Failed-clause-kept : goal.returns-in_ok-done-in-Err-Failed-clause-kept
+returns-in_ok-done-in-Err-Failed-clause-kept g c = λ not_in.
+    let ws = g.P.Writer.Sink.seen in
+    let rs = g.P.Reader.Source.seen in
+    subst (λ l. KeepsWhatReplies c.args.request.now.key l) (sym (ap (map (link_seen ws rs)) c.in_ok-done-in-Err-Failed.ensures.closed))
+    (keeps_links c.args.request.now.key (done_seen ws rs c.args.done None) not_in)
