@@ -4,3 +4,4 @@ pub mod Found
 pub mod Files
 pub mod Ways
 pub mod Rounds
+pub mod Counts

@@ -1,14 +1,15 @@
 -- What a round asks, and that no answer of a step is the limit of bytes.
-use Rattle.std.proofs.Common.{◌≡◌, sym, refl, subst, ℕ, Bool, true, false, if◌then◌else◌, Option, Some, None, List, [], ◌∷◌}
+use Rattle.std.proofs.Common.{◌≡◌, sym, refl, subst, arith, ℕ, ◌≤◌, Bool, true, false, if◌then◌else◌, Option, Some, None, List, [], ◌∷◌, length}
 use Rattle.std.specs.Prelude.{All}
 use Rattle.std.specs.List.{Contains, filter}
+use Rattle.std.proofs.lemmas.Bool.Decides.{nat_tests}
 use Rattle.std.proofs.lemmas.List.Elements.{All-cons, All-filter, All-head, All-nil, All-tail, All-weaker, Contains-append_left, Contains-append_right, Contains-push, filter_passes}
 use Rattle.swift_base.specs.declared.plugins.Plugin.{Plugin}
 use Rattle.plugin_messages.specs.Writable.{IsRequestWritable}
 use Rattle.plugin_messages.specs.declared.message.Outcome.{Outcome}
 use Rattle.plugin_messages.specs.declared.request.Request.{Request}
 use Rattle.macro_decls.specs.declared.table.MacroDecl.{MacroDecl}
-use Rattle.expansion_model.specs.Answer.{are_too_many, by_messages}
+use Rattle.expansion_model.specs.Answer.{answer_of, are_too_many, by_messages, lacks_outcome}
 use Rattle.expansion_model.specs.Buffers.{BufferSeen}
 use Rattle.expansion_model.specs.Steps.{AreMissing, StepSeen, Done, Missing, by_missing, step_of}
 use Rattle.expansion_model.specs.Table.{Look, is_missing, is_none}
@@ -16,6 +17,7 @@ use Rattle.expansion_model.specs.Visit.{Found, visit}
 use Rattle.expansion_model.specs.declared.answer.Answer.{Answer}
 use Rattle.expansion_model.specs.declared.answer.Answer.TheVariants as answer
 use Rattle.expansion_model.specs.declared.answer.LimitKind.TheVariants as limit
+use Rattle.expansion_model.specs.declared.answer.TheConstants.{MOST_REQUESTS}
 use Rattle.expansion_model.specs.declared.message.Message.{Message}
 use Rattle.expand_top.specs.UnderWay.{asked_with}
 
@@ -52,6 +54,23 @@ module _ (macros : List MacroDecl) (plugins : List Plugin) (table : Look) (sourc
 
   pub others_writable : All IsRequestWritable asked → All IsRequestWritable others
   others_writable each = All-tail IsRequestWritable first others (all_of IsRequestWritable each)
+
+abbrev IsRequests : Answer → Type 0
+IsRequests (answer.Limit limit.Bytes) = ⊥
+IsRequests (answer.Limit limit.Requests) = Unit {0}
+IsRequests (answer.File bytes) = ⊥
+IsRequests (answer.Faults messages) = ⊥
+
+-- where more is asked than is allowed, the answer is another limit
+few_if : (found : Found) (other : Answer) (b : Bool) → are_too_many found ≡ b → (if b then answer.Limit limit.Requests else other) ≡ answer.Limit limit.Bytes → length found.asked ≤ MOST_REQUESTS
+few_if found other true is bytes = absurd (subst IsRequests bytes tt)
+few_if found other false is bytes = grind (arith, nat_tests, is)
+
+pub few_asked : (macros : List MacroDecl) (plugins : List Plugin) (table : Look) (source : BufferSeen) (requests : List Request) → AreMissing macros plugins table source requests → length (asked_with macros plugins source table) ≤ MOST_REQUESTS
+unfolding answer_of
+few_asked macros plugins table source requests missing =
+    let found = visit macros plugins table source in
+    few_if found (if lacks_outcome table found then answer.Limit limit.Bytes else by_messages source.outline.text found found.messages) (are_too_many found) refl missing.answers
 
 -- no answer of a step is the limit of bytes
 abbrev IsOther : Answer → Type 0

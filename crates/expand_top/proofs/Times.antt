@@ -1,9 +1,9 @@
 -- How often keys stand in lists.
-use Rattle.std.proofs.Common.{◌≡◌, refl, sym, ap, subst, arith, ℕ, zero, suc, ◌+◌, ◌<◌, ◌≤◌, inl, inr, Bool, true, false, List, [], ◌∷◌, ◌++◌, map}
+use Rattle.std.proofs.Common.{◌≡◌, refl, sym, ap, subst, arith, ℕ, zero, suc, ◌+◌, ◌<◌, ◌≤◌, ◌⊎◌, inl, inr, Bool, true, false, List, [], ◌∷◌, ◌++◌, length, map}
 use Rattle.std.specs.Cmp.Lexicographic.{pointwise}
-use Rattle.std.specs.List.{Contains}
+use Rattle.std.specs.List.{All, Contains}
 use Rattle.std.specs.List.Sorted.{IsPermutation}
-use Rattle.std.proofs.lemmas.List.Elements.{Contains-append_left, Contains-append_right, Contains-append_cases, Contains-push, Contains-push_cases}
+use Rattle.std.proofs.lemmas.List.Elements.{All-head, All-tail, Contains-append_left, Contains-append_right, Contains-append_cases, Contains-push, Contains-push_cases}
 use Rattle.std.proofs.lemmas.List.Sums.{sum_by-append, sum_by-cons}
 use Rattle.std.proofs.lemmas.List.Sorted.{sum_by-IsPermutation}
 use Rattle.unique_names.specs.Steps.{step_eq}
@@ -100,3 +100,40 @@ in_map f (other ∷ xs) x has =
       | inl first ↦ subst (λ y. Contains (f other ∷ map f xs) (f y)) (one_of x other first) (Contains-append_left (f other ∷ []) (map f xs) (f other) (Contains-push [] (f other)))
       | inr later ↦ Contains-append_right (f other ∷ []) (map f xs) (f x) (in_map f xs x later)
     ]
+
+-- a key stands in a list, or it doesn't
+stands_by : (n : ℕ) (key : KeySteps) (keys : List KeySteps) → times key keys ≡ n → Contains keys key ⊎ (Contains keys key → ⊥)
+stands_by zero key keys is = inr (λ has. absurd (omega (arith, is, counted key keys has)))
+stands_by (suc n) key keys is = inl (stands key keys (omega (arith, is)))
+
+pub stands_or_not : (key : KeySteps) (keys : List KeySteps) → Contains keys key ⊎ (Contains keys key → ⊥)
+stands_or_not key keys = stands_by (times key keys) key keys refl
+
+-- how often keys stand in a list, all together
+abbrev hits : List KeySteps → List KeySteps → ℕ
+hits [] keys = 0
+hits (other ∷ others) keys = times other keys + hits others keys
+
+few_hits : (others keys : List KeySteps) → AreDifferent keys → hits others keys ≤ length others
+few_hits [] keys different = omega arith
+few_hits (other ∷ others) keys different = omega (arith, different other, few_hits others keys different)
+
+hits_cons : (others : List KeySteps) (key : KeySteps) (keys : List KeySteps) → hits others (key ∷ keys) ≡ hits others (key ∷ []) + hits others keys
+hits_cons [] key keys = omega arith
+hits_cons (other ∷ others) key keys = omega (arith, times_cons other key keys, times_cons other key [], hits_cons others key keys)
+
+is_hit : (others : List KeySteps) (key : KeySteps) → Contains others key → 0 < hits others (key ∷ [])
+is_hit [] key has = not_in_none key has
+is_hit (other ∷ others) key has = elim (Contains-append_cases (other ∷ []) others key has) [
+  | inl first ↦ omega (arith, times_cons other key [], itself other key (sym (one_of key other first)))
+  | inr later ↦ omega (arith, is_hit others key later)
+]
+
+all_hit : (keys others : List KeySteps) → All (Contains others) keys → length keys ≤ hits others keys
+all_hit [] others each = omega arith
+all_hit (key ∷ keys) others each =
+    omega (arith, is_hit others key (All-head (Contains others) key keys each), hits_cons others key keys, all_hit keys others (All-tail (Contains others) key keys each))
+
+-- different keys of a list are no more than the list has
+pub no_more : (keys others : List KeySteps) → AreDifferent keys → All (Contains others) keys → length keys ≤ length others
+no_more keys others different each = omega (arith, all_hit keys others each, few_hits others keys different)

@@ -1,9 +1,9 @@
 -- A run that is under way, one request further.
-use Rattle.std.proofs.Common.{◌≡◌, ◌∙◌, inl, inr, refl, sym, ap, subst, Bool, true, false, Option, Some, None, List, [], ◌∷◌, ◌++◌, map}
+use Rattle.std.proofs.Common.{◌≡◌, ◌∙◌, inl, inr, refl, sym, ap, subst, ℕ, ◌+◌, ◌<◌, Bool, true, false, Option, Some, None, List, [], ◌∷◌, ◌++◌, length, map, take, get_or}
 use Rattle.std.specs.List.{Contains}
 use Rattle.std.specs.Cmp.Lexicographic.{pointwise}
-use Rattle.std.proofs.lemmas.List.{map-append}
-use Rattle.std.proofs.lemmas.List.Elements.{All-push, All-weaker}
+use Rattle.std.proofs.lemmas.List.{map-append, take_more}
+use Rattle.std.proofs.lemmas.List.Elements.{All-append, All-cons, All-nil, All-push, All-weaker}
 use Rattle.std.proofs.lemmas.List.Sorted.{IsPermutation-sym}
 use Rattle.swift_base.specs.Outside.{StarterSeen}
 use Rattle.swift_base.specs.declared.plugins.Plugin.{Plugin}
@@ -22,10 +22,10 @@ use Rattle.link_driver.specs.Requests.{Wanted, key_of}
 use Rattle.link_driver.specs.Told.{HasTable, IsPut, driver_keys}
 use Rattle.link_driver.proofs.Wanted.{wanted_is_told}
 use Rattle.expand_top.specs.Asking.{AreDifferent, IsOneOf, wanted_for}
-use Rattle.expand_top.specs.UnderWay.{IsUnderWay, asked_with}
+use Rattle.expand_top.specs.UnderWay.{HasAsked, IsDecided, IsUnderWay, asked_with}
 use Rattle.expand_top.proofs.Times.{contains_permuted, different_more}
 
-no_outcome : {A : Type 0} (outcome : Outcome) → None ≡ Some outcome → A
+pub no_outcome : {A : Type 0} (outcome : Outcome) → None ≡ Some outcome → A
 no_outcome {A} outcome is = let P : Option Outcome → Type 0 = λ o. elim o [ None ↦ Unit {0} | Some x ↦ A ] in subst P is tt
 
 put_if : (table after : Look) (key : KeySteps) (own : Outcome) → table key ≡ None → IsPut table key (Some own) after → (other : KeySteps) (b : Bool) → pointwise step_eq other key ≡ b → (outcome : Outcome) → table other ≡ Some outcome
@@ -39,6 +39,43 @@ put_if table after key own missing put other false is outcome there =
 pub put_within : (table after : Look) (key : KeySteps) (outcome : Option Outcome) → table key ≡ None → IsPut table key outcome after → IsWithin table after
 put_within table after key None missing put other outcome there = put other ∙ there
 put_within table after key (Some own) missing put other outcome there = put_if table after key own missing put other (pointwise step_eq other key) refl outcome there
+
+-- what has no outcome in the end had none put
+pub none_put : (table after : Look) (key : KeySteps) (outcome : Option Outcome) → IsPut table key outcome after → after key ≡ None → outcome ≡ None
+none_put table after key None put none_ = refl
+none_put table after key (Some own) put none_ = no_outcome own (sym none_ ∙ put.0)
+
+-- what has no outcome in the end had none before
+pub missing_if : (table wider : Look) (key : KeySteps) → IsWithin table wider → wider key ≡ None → (o : Option Outcome) → table key ≡ o → table key ≡ None
+missing_if table wider key within none_ None is = is
+missing_if table wider key within none_ (Some own) is = no_outcome own (sym none_ ∙ within key own is)
+
+still_decided : (table wider : Look) (driver next : DriverSeen) → IsWithin table wider → (IsSpent driver → IsSpent next) → (request : Request) → IsDecided table driver request → IsDecided wider next request
+still_decided table wider driver next within stays request decided none_ = stays (decided (missing_if table wider request.key within none_ (table request.key) refl))
+
+pub none_asked : (driver : DriverSeen) (table : Look) → HasTable table driver → HasAsked [] driver table driver
+none_asked driver table has = record { tells = has; stays_spent = λ spent. spent; each = All-nil (IsDecided table driver) }
+
+pub one_asked : (request : Request) (driver next : DriverSeen) (table : Look) → HasTable table next → (IsSpent driver → IsSpent next) → IsDecided table next request → HasAsked (request ∷ []) driver table next
+one_asked request driver next table has stays decided =
+    record { tells = has; stays_spent = stays; each = All-cons (IsDecided table next) request [] decided (All-nil (IsDecided table next)) }
+
+-- some requests are asked, and then others
+pub both_asked : (some others : List Request) (driver between next : DriverSeen) (table wider : Look) → IsWithin table wider → HasAsked some driver table between → HasAsked others between wider next
+    → HasAsked (some ++ others) driver wider next
+both_asked some others driver between next table wider within first second = record {
+  tells = second.tells;
+  stays_spent = λ spent. second.stays_spent (first.stays_spent spent);
+  each = All-append (IsDecided wider next) some others
+      (All-weaker (IsDecided table between) (IsDecided wider next) (still_decided table wider between next within second.stays_spent) some first.each) second.each;
+}
+
+-- one request more of a list
+pub asked_further : (requests : List Request) (index : ℕ) (request : Request) (driver between next : DriverSeen) (table wider : Look) → index < length requests → request ≡ get_or requests index request
+    → IsWithin table wider → HasAsked (take index requests) driver table between → HasAsked (request ∷ []) between wider next → HasAsked (take (index + 1) requests) driver wider next
+asked_further requests index request driver between next table wider less is within first second =
+    subst (λ (l : List Request). HasAsked l driver wider next) (ap (λ r. take index requests ++ r ∷ []) is ∙ sym (take_more requests index request less))
+    (both_asked (take index requests) (request ∷ []) driver between next table wider within first second)
 
 module _ (macros : List MacroDecl) (plugins : List Plugin) (source : BufferSeen) where
   widened : (table wider : Look) → IsWithin table wider → (wanted : Wanted) → IsOneOf plugins (asked_with macros plugins source table) wanted → IsOneOf plugins (asked_with macros plugins source wider) wanted

@@ -1,12 +1,12 @@
 -- A run that is under way. This project's own.
-use Rattle.std.specs.Prelude.{◌≡◌, ◌<◌, List, All, map}
+use Rattle.std.specs.Prelude.{◌≡◌, ◌<◌, None, List, All, map}
 use Rattle.swift_base.specs.Outside.{StarterSeen}
 use Rattle.swift_base.specs.declared.plugins.Plugin.{Plugin}
 use Rattle.plugin_messages.specs.declared.request.Request.{Request}
 use Rattle.macro_decls.specs.declared.table.MacroDecl.{MacroDecl}
 use Rattle.expansion_model.specs.Buffers.{BufferSeen}
 use Rattle.expansion_model.specs.Visit.{visit}
-use Rattle.link_driver.specs.Driven.{DriverSeen, IsDriven, bytes_of}
+use Rattle.link_driver.specs.Driven.{DriverSeen, IsDriven, IsSpent, bytes_of}
 use Rattle.link_driver.specs.declared.link.TheConstants.{MOST_BYTES}
 use Rattle.link_driver.specs.Requests.{Wanted, key_of}
 use Rattle.link_driver.specs.Told.{HasTable}
@@ -28,6 +28,17 @@ pub record IsUnderWay (macros : List MacroDecl) (plugins : List Plugin) (source 
   pub tells : HasTable table driver
   pub each : All (IsOneOf plugins (asked_with macros plugins source table)) wanted
   pub different : AreDifferent (map key_of wanted)
+
+-- a request has an outcome, unless the processes gave more than is read
+abbrev pub IsDecided : Look → DriverSeen → Request → Type 0
+IsDecided table driver request = table request.key ≡ None → IsSpent driver
+
+-- Requests were asked of a driver: the table has what is told, and each of the requests is decided. A driver that was
+-- spent still is.
+pub record HasAsked (requests : List Request) (driver : DriverSeen) (table : Look) (next : DriverSeen) : Type 0 where
+  pub tells : HasTable table next
+  pub stays_spent : IsSpent driver → IsSpent next
+  pub each : All (IsDecided table next) requests
 
 -- What was asked for a source, and the answer by its table.
 pub record IsAnswered (macros : List MacroDecl) (plugins : List Plugin) (source : BufferSeen) (asking : Asking) (answer : Answer) : Type 0 where

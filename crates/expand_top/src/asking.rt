@@ -1,5 +1,5 @@
 // Asking what a source wants, round after round.
-ghost use Rattle.std.specs.Prelude.{◌≡◌, [], None, List, IfOk, map};
+ghost use Rattle.std.specs.Prelude.{◌≡◌, [], ◌∷◌, None, List, IfOk, map};
 ghost use Rattle.std.specs.List.{All, Contains};
 ghost use Rattle.swift_base.specs.Outside.{StarterSeen};
 ghost use Rattle.swift_base.specs.declared.plugins.Plugin.{Plugin};
@@ -14,9 +14,9 @@ ghost use Rattle.plugin_messages.specs.Writable.{IsRequestWritable};
 ghost use Rattle.link_driver.specs.Driven as driven;
 ghost use Rattle.link_driver.specs.Driven.{IsSpent, driver_seen};
 ghost use Rattle.link_driver.specs.Links.{link_seen};
-ghost use Rattle.link_driver.specs.Told.{IsPut};
+ghost use Rattle.link_driver.specs.Told.{HasTable, IsPut};
 ghost use Rattle.expand_top.specs.Asking.{IsStartable, asking_of, command_for};
-ghost use Rattle.expand_top.specs.UnderWay.{asked_with, IsAnswered, IsUnderWay};
+ghost use Rattle.expand_top.specs.UnderWay.{asked_with, HasAsked, IsAnswered, IsDecided, IsUnderWay};
 
 use expansion_model::{
     Answer, Buffer, LimitKind, MOST_REQUESTS, Step, Table, expand_with, plugin_for,
@@ -82,6 +82,10 @@ fn ask_one<P: Starter>(
     requires sound { driven.IsSound (driver_seen P.Writer.seen P.Reader.seen way.driver) }
     ensures sound { IfOk result (λ next. driven.IsSound (driver_seen P.Writer.seen P.Reader.seen next.driver)) }
     ensures wider { IfOk result (λ next. IsWithin (look way.table) (look next.table)) }
+    ensures tells { HasTable (look way.table) (driver_seen P.Writer.seen P.Reader.seen way.driver)
+        → IfOk result (λ next. HasTable (look next.table) (driver_seen P.Writer.seen P.Reader.seen next.driver)) }
+    ensures decided { HasTable (look way.table) (driver_seen P.Writer.seen P.Reader.seen way.driver)
+        → IfOk result (λ next. IsDecided (look next.table) (driver_seen P.Writer.seen P.Reader.seen next.driver) request.now) }
     ensures under_way { (macros : List MacroDecl) (source : BufferSeen) (before : StarterSeen)
         → IsUnderWay macros plugins.now source before (driver_seen P.Writer.seen P.Reader.seen way.driver) (look way.table) (P.seen starter.old)
         → (IsSpent (driver_seen P.Writer.seen P.Reader.seen way.driver) → ⊥) → Contains (asked_with macros plugins.now source (look way.table)) request.now
@@ -107,6 +111,9 @@ fn ask_next<P: Starter>(
     requires sound { driven.IsSound (driver_seen P.Writer.seen P.Reader.seen way.driver) }
     ensures sound { IfOk result (λ next. driven.IsSound (driver_seen P.Writer.seen P.Reader.seen next.driver)) }
     ensures wider { IfOk result (λ next. IsWithin (look way.table) (look next.table)) }
+    ensures asked { HasTable (look way.table) (driver_seen P.Writer.seen P.Reader.seen way.driver)
+        → IfOk result (λ next. HasAsked (request.now ∷ []) (driver_seen P.Writer.seen P.Reader.seen way.driver) (look next.table)
+        (driver_seen P.Writer.seen P.Reader.seen next.driver)) }
     ensures under_way { (macros : List MacroDecl) (source : BufferSeen) (before : StarterSeen)
         → IsUnderWay macros plugins.now source before (driver_seen P.Writer.seen P.Reader.seen way.driver) (look way.table) (P.seen starter.old)
         → Contains (asked_with macros plugins.now source (look way.table)) request.now
@@ -131,6 +138,10 @@ fn ask_each<P: Starter>(
     requires writable { All IsRequestWritable requests.now }
     requires sound { driven.IsSound (driver_seen P.Writer.seen P.Reader.seen way.driver) }
     ensures sound { IfOk result (λ next. driven.IsSound (driver_seen P.Writer.seen P.Reader.seen next.driver)) }
+    ensures wider { IfOk result (λ next. IsWithin (look way.table) (look next.table)) }
+    ensures asked { HasTable (look way.table) (driver_seen P.Writer.seen P.Reader.seen way.driver)
+        → IfOk result (λ next. HasAsked requests.now (driver_seen P.Writer.seen P.Reader.seen way.driver) (look next.table)
+        (driver_seen P.Writer.seen P.Reader.seen next.driver)) }
     ensures under_way { (macros : List MacroDecl) (source : BufferSeen) (before : StarterSeen)
         → IsUnderWay macros plugins.now source before (driver_seen P.Writer.seen P.Reader.seen way.driver) (look way.table) (P.seen starter.old)
         → All (Contains (asked_with macros plugins.now source (look way.table))) requests.now
@@ -190,6 +201,10 @@ fn ask_round<P: Starter>(
     requires others { All IsRequestWritable others.now }
     requires sound { driven.IsSound (driver_seen P.Writer.seen P.Reader.seen way.driver) }
     ensures sound { IfOk result (λ next. driven.IsSound (driver_seen P.Writer.seen P.Reader.seen next.driver)) }
+    ensures wider { IfOk result (λ next. IsWithin (look way.table) (look next.table)) }
+    ensures asked { HasTable (look way.table) (driver_seen P.Writer.seen P.Reader.seen way.driver)
+        → IfOk result (λ next. HasAsked (first.now ∷ others.now) (driver_seen P.Writer.seen P.Reader.seen way.driver) (look next.table)
+        (driver_seen P.Writer.seen P.Reader.seen next.driver)) }
     ensures under_way { (macros : List MacroDecl) (source : BufferSeen) (before : StarterSeen)
         → IsUnderWay macros plugins.now source before (driver_seen P.Writer.seen P.Reader.seen way.driver) (look way.table) (P.seen starter.old)
         → Contains (asked_with macros plugins.now source (look way.table)) first.now
@@ -229,5 +244,5 @@ pub fn expand_source<P: Starter>(
             }
         }
     }
-    Err(AllocError)
+    unreachable!()
 }

@@ -1,10 +1,10 @@
 use Rattle.std.proofs.Common.{◌≡◌, ◌∙◌, ap, subst, sym, [], ◌∷◌, ◌++◌}
 use Rattle.expansion_model.specs.Table.{look}
-use Rattle.link_driver.specs.Driven.{IsDriven, driver_seen}
+use Rattle.link_driver.specs.Driven.{IsDriven, IsSpent, driver_seen}
 use Rattle.link_driver.specs.Requests.{Wanted, wanted_of}
 use Rattle.link_driver.specs.Told.{HasTable}
 use Rattle.expand_top.specs.Asking.{command_for, wanted_for}
-use Rattle.expand_top.proofs.Ways.{one_further, put_within}
+use Rattle.expand_top.proofs.Ways.{none_put, one_further, put_within}
 use Rattle.expand_top.proofs.asking.ask_one.Goals as goal
 
 pub returns-clause-under_way : goal.returns-clause-under_way
@@ -26,3 +26,15 @@ returns-clause-under_way g c = λ macros source before way goes_on among.
     (c.in_ok-asked.ensures.table table (look next.table) way.tells c.requires.missing c.in_ok-next.ensures.table) in
     one_further macros plugins source before (driver_seen ws rs c.args.way.driver) table (g.P.Starter.seen c.args.starter.now) way goes_on request (driver_seen ws rs next.driver) (look next.table) end
     among c.requires.missing (put_within table (look next.table) request.key c.in_ok-asked.asked.outcome c.requires.missing c.in_ok-next.ensures.table) driven tells
+
+pub returns-clause-tells : goal.returns-clause-tells
+returns-clause-tells g c = λ has.
+    let next = c.in_ok-next.next in
+    subst (λ d. HasTable (look next.table) (driver_seen g.P.Writer.Sink.seen g.P.Reader.Source.seen d)) (sym c.in_ok-next.ensures.driver)
+    (c.in_ok-asked.ensures.table (look c.args.way.table) (look next.table) has c.requires.missing c.in_ok-next.ensures.table)
+
+pub returns-clause-decided : goal.returns-clause-decided
+returns-clause-decided g c = λ has missing.
+    let table = look c.args.way.table in
+    subst (λ d. IsSpent (driver_seen g.P.Writer.Sink.seen g.P.Reader.Source.seen d)) (sym c.in_ok-next.ensures.driver)
+    (c.in_ok-asked.ensures.spent table has (none_put table (look c.in_ok-next.next.table) c.args.request.now.key c.in_ok-asked.asked.outcome c.in_ok-next.ensures.table missing))
