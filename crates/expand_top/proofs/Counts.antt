@@ -85,10 +85,14 @@ module _ (macros : List MacroDecl) (plugins : List Plugin) (source : BufferSeen)
 
   room_for : (rounds : ℕ) → HaveOutcomes rounds table → (first : Request) → Contains asked first → table first.key ≡ None → rounds + 1 ≤ length asked
   room_for rounds have first among missing =
-      omega (arith,
-      no_more (have.keys ++ first.key ∷ []) asked_keys (all_different rounds table have first.key missing)
-      (All-push (Contains asked_keys) have.keys first.key (All-weaker (HasOne table) (Contains asked_keys) is_asked have.keys have.each) (in_map (λ (request : Request). request.key) asked first among)),
-      length-append have.keys (first.key ∷ []), have.many, length-map asked (λ (request : Request). request.key))
+      omega (
+        arith,
+        no_more (have.keys ++ first.key ∷ []) asked_keys (all_different rounds table have first.key missing)
+            (All-push (Contains asked_keys) have.keys first.key (All-weaker (HasOne table) (Contains asked_keys) is_asked have.keys have.each) (in_map (λ (request : Request). request.key) asked first among)),
+        length-append have.keys (first.key ∷ []),
+        have.many,
+        length-map asked (λ (request : Request). request.key),
+      )
 
   -- a round with something to ask is one of so many as there are requests
   pub has_room : (rounds : ℕ) → HasCome rounds table driver → (first : Request) → Contains asked first → table first.key ≡ None → rounds + 1 ≤ length asked

@@ -1,4 +1,4 @@
-use Rattle.std.proofs.Common.{arith, sym, subst, List, length}
+use Rattle.std.proofs.Common.{arith, sym, subst, List}
 use Rattle.std.specs.List.{Contains}
 use Rattle.std.proofs.lemmas.List.{take_all}
 use Rattle.plugin_messages.specs.declared.request.Request.{Request}

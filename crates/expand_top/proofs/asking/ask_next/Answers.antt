@@ -1,8 +1,7 @@
 use Rattle.std.proofs.Common.{◌≡◌, arith, false, true}
 use Rattle.std.proofs.lemmas.Bool.Decides.{nat_tests}
 use Rattle.expansion_model.specs.Table.{look}
-use Rattle.link_driver.specs.Driven.{IsSpent, driver_seen}
-use Rattle.link_driver.proofs.Tables.{filled}
+use Rattle.link_driver.specs.Driven.{driver_seen}
 use Rattle.expand_top.proofs.Ways.{one_asked}
 use Rattle.expand_top.proofs.asking.ask_next.Goals as goal
 

@@ -99,9 +99,12 @@ rounds-preserved g c =
           subst (λ (ps : List Plugin). IsUnderWay macros ps source before next wider (g.P.Starter.seen c.ask_round.new.starter)) c.list.ensures
           (c.in_ok-way-in-Missing.ensures.under_way macros source before way asks_first asks_others);
       few =
-          omega (arith, few_asked macros plugins table source (first ∷ others) missing,
-          has_room macros plugins source before (driver_seen ws rs c.rounds.way.driver) table (g.P.Starter.seen c.rounds.starter) c.rounds.invariant.under_way goes_on c.rounds.counter c.rounds.invariant.come first
-          (first_asked macros plugins table source first others missing) (first_missing macros plugins table source first others missing));
+          omega (
+            arith,
+            few_asked macros plugins table source (first ∷ others) missing,
+            has_room macros plugins source before (driver_seen ws rs c.rounds.way.driver) table (g.P.Starter.seen c.rounds.starter) c.rounds.invariant.under_way goes_on c.rounds.counter c.rounds.invariant.come first
+                (first_asked macros plugins table source first others missing) (first_missing macros plugins table source first others missing),
+          );
       come =
           further c.rounds.counter table wider (driver_seen ws rs c.rounds.way.driver) next first c.rounds.invariant.come goes_on
           (first_missing macros plugins table source first others missing) c.in_ok-way-in-Missing.ensures.wider (All-head (IsDecided wider next) first c.deref.result.now asked.each);
