@@ -38,6 +38,10 @@ inner_in_order : (text : List ℕ) (left right : Token) (inner : Forest) (from :
 inner_in_order text left right inner from lies =
     earlier (left.start + 1) left.end (right.end - 1) (level text inner) (omega (arith, lies.1.some)) (later left.end right.start (right.end - 1) (level text inner) (omega (arith, lies.3.some)) (level_in_order text left.end right.start inner lies.2))
 
+names_if_lie : (parentheses : Bool) (to : ℕ) (marks : List Mark) (insides : List Inside) (from : ℕ) → InOrder from marks to → Beside InsideLies marks insides → PartsLie from (names_if parentheses marks insides) to
+names_if_lie true to marks insides from lies holds = names_inside_lie to marks insides from lies holds
+names_if_lie false to marks insides from lies holds = tt
+
 mutual
   unfolding inside_of insides read_inside
 
@@ -48,7 +52,7 @@ mutual
       let order = inner_in_order text left right inner from lies in
       let holds = beside_level InsideLies text inner (insides text inner) (insides_lie text left.end right.start inner lies.2) in
       let found = found_in_lies (left.start + 1) (right.end - 1) marks (insides text inner) order holds in
-      record { names = names_inside_lie (right.end - 1) marks (insides text inner) (left.start + 1) order holds; uses = found.uses; locals = found.locals }
+      record { names = names_if_lie (is_parentheses (mark_of text (nest left inner right))) (right.end - 1) marks (insides text inner) (left.start + 1) order holds; uses = found.uses; locals = found.locals }
 
   insides_lie : (text : List ℕ) (from to : ℕ) (forest : Forest) → ForestInOrder text from forest to → Beside InsideLies (own_marks text forest) (insides text forest)
   insides_lie text from to none lies = tt

@@ -19,7 +19,7 @@ use Rattle.decl_parser.specs.Attributes.{attr_of}
 use Rattle.decl_parser.specs.Bindings.{names_here, names_inside}
 use Rattle.decl_parser.specs.Found.{all_within, found_from, found_in, found_step, joined, nothing, within}
 use Rattle.decl_parser.specs.Insides.{AreBlank, first_inside, nothing_inside}
-use Rattle.decl_parser.specs.Levels.{inside_of, insides, is_flat, is_leaf, is_simple}
+use Rattle.decl_parser.specs.Levels.{inside_of, insides, is_flat, is_leaf, is_simple, names_if}
 use Rattle.decl_parser.proofs.FoundWalks.{other_step}
 
 names_bare : (marks : List Mark) (insides : List Inside) → names_inside marks insides ≡ names_inside (map bare marks) insides
@@ -33,6 +33,10 @@ names_level text forest insides =
     names_bare (own_marks text forest) insides
     ∙ ap (λ l. names_inside l insides) (sym (bare_level text forest))
     ∙ sym (names_bare (level text forest) insides)
+
+pub names_if_level : (parentheses : Bool) (text : List ℕ) (forest : Forest) (insides : List Inside) → names_if parentheses (own_marks text forest) insides ≡ names_if parentheses (level text forest) insides
+names_if_level true text forest insides = names_level text forest insides
+names_if_level false text forest insides = refl
 
 length_bare : (marks : List Mark) → length (map bare marks) ≡ length marks
 length_bare [] = refl
@@ -106,7 +110,7 @@ negated : (b : Bool) → not b ≡ true → b ≡ false
 negated true is = cc
 negated false is = refl
 
-blank_leaf : (text : List ℕ) (tree : Tree) → is_leaf tree ≡ true → nothing_inside ≡ inside_of text tree
+pub blank_leaf : (text : List ℕ) (tree : Tree) → is_leaf tree ≡ true → nothing_inside ≡ inside_of text tree
 unfolding inside_of
 blank_leaf text (leaf token) is = refl
 blank_leaf text (nest left inner right) is = cc
@@ -147,6 +151,10 @@ nothing_names (mark ∷ marks) insides empty =
     ap (λ inside. named_by mark marks inside ++ names_inside marks []) (nothing_first insides empty)
     ∙ ap (λ l. names_here mark marks insides ++ l) (nothing_names marks (drop 1 insides) (nothing_drop insides empty))
 
+nothing_names_if : (parentheses : Bool) (marks : List Mark) (insides : List Inside) → AreBlank insides → names_if parentheses marks [] ≡ names_if parentheses marks insides
+nothing_names_if true marks insides empty = nothing_names marks insides empty
+nothing_names_if false marks insides empty = refl
+
 nothing_within : (insides : List Inside) → AreBlank insides → nothing ≡ all_within insides
 nothing_within [] empty = refl
 nothing_within (inside ∷ insides) empty =
@@ -160,7 +168,7 @@ blank_push (first ∷ insides) inside blank is = (blank.0, blank_push insides in
 
 -- what a simple list gives
 pub record Simple (text : List ℕ) (elements : List Element) : Type 0 where
-  pub names : names_inside (own_marks text (forest_of elements)) [] ≡ names_inside (level text (forest_of elements)) (insides text (forest_of elements))
+  pub names : (parentheses : Bool) → names_if parentheses (own_marks text (forest_of elements)) [] ≡ names_if parentheses (level text (forest_of elements)) (insides text (forest_of elements))
   pub found : nothing ≡ found_in (level text (forest_of elements)) (insides text (forest_of elements))
   pub observes : false ≡ observes_from 0 (level text (forest_of elements))
   pub lists : false ≡ lists_accessors (level text (forest_of elements))
@@ -173,7 +181,7 @@ simple_list text elements is =
     let empty = nothing_flat text forest first.0 in
     let accessors = quiet_accessors text forest first.1 (negated (may_list_accessors text forest) last.1) in
     record {
-      names = names_level text forest [] ∙ nothing_names (level text forest) (insides text forest) empty;
+      names = λ parentheses. names_if_level parentheses text forest [] ∙ nothing_names_if parentheses (level text forest) (insides text forest) empty;
       found = nothing_within (insides text forest) empty ∙ quiet_found text elements (insides text forest) first.1 (length_insides text elements);
       observes = accessors.0;
       lists = accessors.1;

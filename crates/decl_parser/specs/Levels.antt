@@ -2,7 +2,10 @@
 use Rattle.std.specs.Prelude.{ℕ, suc, ◌+◌, List, [], ◌∷◌, Option, Some, None, Ok, Bool, true, false, ◌&&◌, not}
 use Rattle.swift_lexer.specs.Trees.{Tree, Forest, leaf, nest, none, cons}
 use Rattle.element_marks.specs.declared.mark.Mark.{Mark}
+use Rattle.swift_base.specs.declared.place.Span.{Span}
 use Rattle.element_marks.specs.Levels.{level}
+use Rattle.element_marks.specs.Marks.{mark_of}
+use Rattle.element_marks.specs.Sorts.{is_parentheses}
 use Rattle.element_marks.specs.Quiet.{is_quiet, may_list_accessors}
 use Rattle.element_marks.specs.Accessors.{lists_accessors, observes_from}
 use Rattle.decl_parser.specs.declared.inside.Inside.{Inside}
@@ -18,10 +21,15 @@ abbrev pub tree_inside : Tree → Option Forest
 tree_inside (leaf token) = None
 tree_inside (nest left inner right) = Some inner
 
--- what stands inside a group, by the elements of its list
-unfoldable pub read_inside : List Mark → List Inside → Inside
-read_inside marks insides = record {
-  names = names_inside marks insides;
+-- the names of a pattern's parentheses; other groups are no pattern
+abbrev pub names_if : Bool → List Mark → List Inside → List Span
+names_if true marks insides = names_inside marks insides
+names_if false marks insides = []
+
+-- what stands inside a group, by the elements of its list, and by whether it is one of parentheses
+unfoldable pub read_inside : Bool → List Mark → List Inside → Inside
+read_inside parentheses marks insides = record {
+  names = names_if parentheses marks insides;
   observes = observes_from 0 marks;
   lists_accessors = lists_accessors marks;
   uses = (found_in marks insides).uses;
@@ -31,7 +39,7 @@ read_inside marks insides = record {
 unfoldable mutual
   pub inside_of : List ℕ → Tree → Inside
   inside_of text (leaf token) = nothing_inside
-  inside_of text (nest left inner right) = read_inside (level text inner) (insides text inner)
+  inside_of text (nest left inner right) = read_inside (is_parentheses (mark_of text (nest left inner right))) (level text inner) (insides text inner)
 
   -- what stands inside each element of a list
   pub insides : List ℕ → Forest → List Inside

@@ -4,17 +4,17 @@ ghost use Rattle.std.specs.Prelude.{◌≡◌, IfOk, IfSome, length, option_map}
 ghost use Rattle.swift_lexer.specs.Trees.{forest_of, tree_of};
 ghost use Rattle.decl_parser.specs.Cut.{without};
 ghost use Rattle.decl_parser.specs.Insides.{AreBlank, listed_or};
-ghost use Rattle.decl_parser.specs.Levels.{inside_of, insides, read_inside, tree_inside};
+ghost use Rattle.decl_parser.specs.Levels.{inside_of, insides, names_if, read_inside, tree_inside};
 
 use crate::bindings::names_inside;
 use crate::found::{Findings, found_in};
 use crate::gathering::{finish, start};
 use crate::inside::{Inside, nothing_inside};
 use crate::lists::{add, behind, upto};
-use crate::quiet::{is_flat, is_simple, read_simple};
+use crate::quiet::{is_flat, is_leaf, is_parentheses, is_simple, read_simple};
 use element_marks::{Mark, lists_accessors, observes};
 use std::alloc::{AllocError, Global};
-use swift_base::Listed;
+use swift_base::{Listed, Span};
 use swift_lexer::Element;
 
 /// What stands inside the brackets of an element, where it is a group.
@@ -46,20 +46,23 @@ fn inside_of(alloc: Global, text: &[u8], element: &Element) -> Result<Inside, Al
     match element {
         Element::Leaf(_) => Ok(nothing_inside(alloc)),
         Element::Nest(group) => {
+            let parentheses = is_parentheses(text, element);
             let inner = group.inner.as_slice();
             if is_simple(text, inner) {
-                return read_simple(alloc, text, inner);
+                return read_simple(alloc, text, inner, parentheses);
             }
-            let mut read = start(alloc, text, inner)?;
+            let mut read = start(alloc, text, inner, parentheses)?;
             let mut rest = inner;
             'inner: for part in inner.iter() {
                 rest = behind(rest, 1);
-                match inside_leaf(alloc, text, part) {
-                    Some(inside) => read.add(alloc, text, part, rest, inside)?,
-                    None => read.add(alloc, text, part, rest, inside_of(alloc, text, part)?)?,
+                if is_leaf(part) {
+                    read.add_token(alloc, text, part, rest, parentheses)?;
+                } else {
+                    let inside = inside_of(alloc, text, part)?;
+                    read.add(alloc, text, part, rest, inside, parentheses)?;
                 }
             }
-            finish(alloc, text, inner, read)
+            finish(alloc, text, inner, read, parentheses)
         }
     }
 }
@@ -130,10 +133,31 @@ pub fn listed_or<'a>(
     }
 }
 
-/// What stands inside a group, by the marks of its list.
+/// The names of a pattern's parentheses; other groups are no pattern.
+fn names_if(
+    alloc: Global,
+    marks: &[Mark],
+    insides: &[Inside],
+    parentheses: bool,
+) -> Result<Vec<Span>, AllocError>
+    ensures { IfOk result (λ names. names.items ≡ names_if parentheses marks.now insides.now) }
+{
+    if parentheses {
+        names_inside(alloc, marks, insides)
+    } else {
+        Ok(Vec::new(alloc))
+    }
+}
+
+/// What stands inside a group, one of parentheses or another, by the marks of its list.
 #[tactic(auto, unfolding(crate::specs::Levels::read_inside))]
-pub fn read_inside(alloc: Global, marks: &[Mark], insides: &[Inside]) -> Result<Inside, AllocError>
-    ensures { IfOk result (λ inside. inside ≡ read_inside marks.now insides.now) }
+pub fn read_inside(
+    alloc: Global,
+    marks: &[Mark],
+    insides: &[Inside],
+    parentheses: bool,
+) -> Result<Inside, AllocError>
+    ensures { IfOk result (λ inside. inside ≡ read_inside parentheses marks.now insides.now) }
 {
     let Findings {
         attrs: _,
@@ -141,7 +165,7 @@ pub fn read_inside(alloc: Global, marks: &[Mark], insides: &[Inside]) -> Result<
         locals,
     } = found_in(alloc, marks, insides)?;
     Ok(Inside {
-        names: Listed::from_vec(names_inside(alloc, marks, insides)?),
+        names: Listed::from_vec(names_if(alloc, marks, insides, parentheses)?),
         observes: observes(marks),
         lists_accessors: lists_accessors(marks),
         uses: Listed::from_vec(uses),

@@ -20,10 +20,13 @@ pub fn upto<T>(list: &[T], count: usize) -> &[T]
     &list[..count]
 }
 
-/// One more at the end.
+/// One more at the end. A list of one has room for no more.
 pub fn add<T: Drop>(list: &mut Vec<T>, value: T) -> Result<(), AllocError>
     ensures { OnOk result (list.new.items ≡ list.old.items ++ value ∷ []) }
 {
+    if list.is_empty() {
+        list.reserve_exact(1)?;
+    }
     list.push(value)?;
     Ok(())
 }

@@ -7,28 +7,33 @@ ghost use Rattle.element_marks.specs.Heads.{first_is};
 ghost use Rattle.element_marks.specs.Levels.{level, own_marks};
 ghost use Rattle.element_marks.specs.Marks.{mark_of};
 ghost use Rattle.element_marks.specs.Quiet.{is_quiet, may_list_accessors};
-ghost use Rattle.element_marks.specs.Sorts.{is_colon, is_colon_sort, is_name_sort, is_parentheses_sort};
+ghost use Rattle.element_marks.specs.Sorts.{is_colon, is_colon_sort, is_name_sort, is_parentheses, is_parentheses_sort};
 ghost use Rattle.element_marks.specs.Spans.{name_of};
 ghost use Rattle.element_marks.specs.Words.{is_underscore};
-ghost use Rattle.decl_parser.specs.Bindings.{names_here, names_inside};
-ghost use Rattle.decl_parser.specs.Levels.{insides, is_flat, is_leaf, is_simple, read_inside};
+ghost use Rattle.decl_parser.specs.Bindings.{names_here};
+ghost use Rattle.decl_parser.specs.Levels.{insides, is_flat, is_leaf, is_simple, names_if, read_inside};
 
 use crate::found::add_copies;
 use crate::inside::{Inside, first_names};
-use crate::lists::{add, behind};
+use crate::lists::add;
 use element_marks::{Sort, is_blank, is_quiet, may_list_accessors, name_at, sort_of};
 use std::alloc::{AllocError, Global};
 use swift_base::{Listed, Span};
 use swift_lexer::Element;
 use swift_tree::{Attr, MacroUse};
 
-/// What stands inside a group, by the elements of its list, of which none is a group.
-pub fn read_simple(alloc: Global, text: &[u8], elements: &[Element]) -> Result<Inside, AllocError>
+/// What stands inside a group, one of parentheses or another, by the elements of its list, of which none is a group.
+pub fn read_simple(
+    alloc: Global,
+    text: &[u8],
+    elements: &[Element],
+    parentheses: bool,
+) -> Result<Inside, AllocError>
     requires { is_simple text.now (forest_of elements.now) ≡ true }
-    ensures { IfOk result (λ inside. inside ≡ read_inside (level text.now (forest_of elements.now)) (insides text.now (forest_of elements.now))) }
+    ensures { IfOk result (λ inside. inside ≡ read_inside parentheses (level text.now (forest_of elements.now)) (insides text.now (forest_of elements.now))) }
 {
     Ok(Inside {
-        names: Listed::from_vec(element_names(alloc, text, elements, &[])?),
+        names: Listed::from_vec(simple_names(alloc, text, elements, parentheses)?),
         observes: false,
         lists_accessors: false,
         uses: Listed::from_vec(Vec::new(alloc)),
@@ -55,7 +60,8 @@ pub fn is_flat(elements: &[Element]) -> bool
     true
 }
 
-fn is_leaf(element: &Element) -> bool
+/// Whether the element is a token.
+pub fn is_leaf(element: &Element) -> bool
     ensures { result ≡ is_leaf (tree_of element.now) }
 {
     match element {
@@ -64,22 +70,23 @@ fn is_leaf(element: &Element) -> bool
     }
 }
 
-/// The names in a pattern's parentheses; a label is none.
-fn element_names(
+/// The names of a pattern's parentheses in which no group stands.
+fn simple_names(
     alloc: Global,
     text: &[u8],
     elements: &[Element],
-    insides: &[Inside],
+    parentheses: bool,
 ) -> Result<Vec<Span>, AllocError>
-    ensures { IfOk result (λ names. names.items ≡ names_inside (own_marks text.now (forest_of elements.now)) insides.now) }
+    ensures { IfOk result (λ names. names.items ≡ names_if parentheses (own_marks text.now (forest_of elements.now)) []) }
 {
     let mut names = Vec::new(alloc);
+    if !parentheses {
+        return Ok(names);
+    }
     let mut rest = elements;
-    let mut within = insides;
     'elements: while let Some((element, others)) = rest.split_first() {
-        add_element_names(&mut names, text, element, others, within)?;
+        add_element_names(&mut names, text, element, others, &[])?;
         rest = others;
-        within = behind(within, 1);
     }
     Ok(names)
 }
@@ -128,6 +135,13 @@ fn first_colon(text: &[u8], elements: &[Element]) -> bool
         Some(element) => is_colon_sort(sort_of(text, element)),
         None => false,
     }
+}
+
+/// Whether the element is a group of parentheses.
+pub fn is_parentheses(text: &[u8], element: &Element) -> bool
+    ensures { result ≡ is_parentheses (mark_of text.now (tree_of element.now)) }
+{
+    is_parentheses_sort(sort_of(text, element))
 }
 
 fn is_parentheses_sort(sort: Sort) -> bool
