@@ -1,11 +1,11 @@
 -- Declarations and macro uses at every depth, and in the whole text.
-use Rattle.std.proofs.Common.{subst, arith, ℕ, ◌+◌, ◌-◌, List, length, true, false, ◌∷◌, ◌≤◌, Result, Ok, Err, if◌then◌else◌, [], ◌≡◌}
+use Rattle.std.proofs.Common.{Bool, subst, arith, ℕ, ◌+◌, ◌-◌, List, length, true, false, ◌∷◌, ◌≤◌, Result, Ok, Err, if◌then◌else◌, [], ◌≡◌}
 use Rattle.swift_base.specs.declared.place.Span.{Span}
 use Rattle.element_marks.specs.declared.mark.Mark.{Mark}
-use Rattle.element_marks.specs.Sorts.{is_braces}
+use Rattle.element_marks.specs.Sorts.{is_parentheses, is_braces}
 use Rattle.element_marks.specs.Spans.{between}
 use Rattle.element_marks.specs.Heads.{first_is, in_list}
-use Rattle.element_marks.specs.Marks.{mark_between}
+use Rattle.element_marks.specs.Marks.{mark_between, mark_of}
 use Rattle.swift_lexer.specs.declared.token.Token.{Token}
 use Rattle.swift_lexer.specs.Trees.{Tree, leaf, nest, Forest, none, cons}
 use Rattle.swift_lexer.specs.Groups.{IsGrouped}
@@ -19,7 +19,8 @@ use Rattle.element_marks.specs.Accessors.{accessors_from}
 use Rattle.decl_parser.specs.declared.place.Place.{Place}
 use Rattle.decl_parser.specs.declared.place.Place.TheVariants as place
 use Rattle.decl_parser.specs.Found.{found_in}
-use Rattle.decl_parser.specs.Levels.{read_inside, inside_of, insides, members_of, members, items_of_list}
+use Rattle.decl_parser.specs.declared.inside.Inside.{Inside}
+use Rattle.decl_parser.specs.Levels.{names_if, read_inside, inside_of, insides, members_of, members, items_of_list}
 use Rattle.decl_parser.specs.Fragments.{all_of, by_shape, attributes_from, accessor_marks, accessors_inside, first_between, not_an_accessor, one_group, expression}
 use Rattle.decl_parser.specs.Nesting.{PartsLie, AttrsLie, ItemsLie, OutlineLies}
 use Rattle.decl_parser.specs.Laws.{SpansInOrder}
