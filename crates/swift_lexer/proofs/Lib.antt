@@ -17,4 +17,5 @@ pub mod StringSpelled
 pub mod Tiling
 pub mod TokenBytes
 pub mod Trees
+pub mod Underway
 pub mod Unfinished

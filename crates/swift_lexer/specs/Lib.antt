@@ -7,6 +7,7 @@ pub mod Fronts
 pub mod Groups
 pub mod Laws
 pub mod Openings
+pub mod Reads
 pub mod Spellings
 pub mod Strings
 pub mod Texts

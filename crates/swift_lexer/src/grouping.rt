@@ -42,18 +42,27 @@ pub fn group(
     requires { IsLexed text.now (Ok tokens.now) }
     ensures { Answers (λ elements. forest_of elements.items) result (IsGrouped text.now tokens.now) }
 {
-    let mut grouping = Grouping {
-        levels: Vec::new(alloc),
-        here: Vec::new(alloc),
-        spares: Vec::new(alloc),
-    };
+    let mut grouping = nothing_open(alloc);
     for token in tokens {
         take(alloc, &mut grouping, *token, text)?;
     }
     finish(grouping)
 }
 
-fn take(
+/// No token is read yet.
+pub fn nothing_open(alloc: Global) -> Grouping
+    ensures levels { result.levels.items ≡ [] }
+    ensures here { result.here.items ≡ [] }
+{
+    Grouping {
+        levels: Vec::new(alloc),
+        here: Vec::new(alloc),
+        spares: Vec::new(alloc),
+    }
+}
+
+/// Puts the token where it belongs.
+pub fn take(
     alloc: Global,
     grouping: &mut Grouping,
     token: Token,
@@ -141,7 +150,8 @@ fn group_of(
     Ok(Element::Nest(group))
 }
 
-fn finish(grouping: Grouping) -> Result<Vec<Element>, Refusal<GroupFault>>
+/// The groups, where no bracket is open any more.
+pub fn finish(grouping: Grouping) -> Result<Vec<Element>, Refusal<GroupFault>>
     ensures { (text : List ℕ) (tokens : List Token) → Stands text tokens grouping [] → Answers (λ elements. forest_of elements.items) result (IsGrouped text tokens) }
 {
     let Grouping {

@@ -33,7 +33,7 @@ pub fn lex(alloc: Global, text: &[u8]) -> Result<Vec<Token>, Refusal<LexFault>>
 }
 
 /// Behind a byte order mark at the very beginning.
-fn after_mark(text: &str) -> &str
+pub fn after_mark(text: &str) -> &str
     ensures { chars result.now ≡ after_mark (chars text.now) }
 {
     if begins(text, BYTE_ORDER_MARK) {
@@ -75,7 +75,7 @@ fn lex_from(alloc: Global, total: usize, text: &str) -> Result<Vec<Token>, Refus
     Ok(tokens)
 }
 
-fn token_between(total: usize, trivia: u32, class: Class, text: &str, rest: &str) -> Token
+pub fn token_between(total: usize, trivia: u32, class: Class, text: &str, rest: &str) -> Token
     requires { total < 2 ^ 32 }
     ensures { result ≡ token_between total trivia class (chars text.now) (chars rest.now) }
 {

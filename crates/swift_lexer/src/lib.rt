@@ -11,6 +11,7 @@ mod found;
 mod grouping;
 mod laws;
 mod lexing;
+mod reading;
 mod refusal;
 mod strings;
 mod texts;
@@ -23,6 +24,7 @@ pub use laws::{
     some_token_outcome, token_bytes, tokens_are_of_characters, tokens_tile,
 };
 pub use lexing::{LONGEST_TEXT, lex};
+pub use reading::read_elements;
 pub use refusal::Refusal;
 pub use strings::BUILTIN_WORDS;
 pub use token::{Class, LexFault, LexKind, Token};
