@@ -12,6 +12,7 @@ use Rattle.decl_parser.specs.declared.parse.TheConstants.{LONGEST_SOURCE}
 use Rattle.decl_parser.specs.declared.fault.ParseKind.TheVariants.{SourceTooLarge}
 use Rattle.decl_parser.specs.Faults.{fault}
 use Rattle.swift_lexer.specs.Bracketing.{groups_of}
+use Rattle.swift_lexer.specs.Reads.{ReadsAs}
 use Rattle.swift_lexer.proofs.SomeGrouping.{some_group_outcome}
 use Rattle.swift_lexer.specs.Trees.{Forest, forest_tokens}
 use Rattle.swift_tree.specs.declared.outline.Shape.{Shape}
@@ -35,25 +36,9 @@ pub groups_read : (text : List ℕ) (tokens : List Token) (outcome : GroupOutcom
 unfolding read_groups
 groups_read text tokens outcome is = ap grouped (one_group_outcome text tokens outcome (groups_of text tokens) is (some_group_outcome text tokens))
 
--- by the outcome of its tokens, of its brackets, and of its words
-pub tokens_refused : (text : List ℕ) (shape : Shape) (found : ParseFault) → Err found ≡ read_tokens text → Err found ≡ outline text shape
-unfolding outline elements_of
-tokens_refused text shape found read = ap (λ r. and_then (and_then r (read_groups text)) (outline_by text shape)) read
-
-pub groups_refused : (text : List ℕ) (shape : Shape) (tokens : List Token) (found : ParseFault) → Ok tokens ≡ read_tokens text → Err found ≡ read_groups text tokens → Err found ≡ outline text shape
-unfolding outline elements_of
-groups_refused text shape tokens found lexed read =
-    ap (λ r. and_then r (outline_by text shape)) read ∙ ap (λ r. and_then (and_then r (read_groups text)) (outline_by text shape)) lexed
-
-by_groups : (text : List ℕ) (shape : Shape) (tokens : List Token) (forest : Forest) → Ok tokens ≡ read_tokens text → Ok forest ≡ read_groups text tokens → outline_by text shape forest ≡ outline text shape
-unfolding outline elements_of
-by_groups text shape tokens forest lexed grouped =
-    ap (λ r. and_then r (outline_by text shape)) grouped ∙ ap (λ r. and_then (and_then r (read_groups text)) (outline_by text shape)) lexed
-
-pub words_refused : (text : List ℕ) (shape : Shape) (tokens : List Token) (forest : Forest) (found : ParseFault) → Ok tokens ≡ read_tokens text → Ok forest ≡ read_groups text tokens → forest_tokens forest ≡ tokens → Err found ≡ allowed text shape tokens → Err found ≡ outline text shape
-words_refused text shape tokens forest found lexed grouped held read =
-    ap (λ r. and_then r (λ fine. by_shape text shape forest)) (read ∙ ap (allowed text shape) (sym held)) ∙ by_groups text shape tokens forest lexed grouped
-
-pub outline_read : (text : List ℕ) (shape : Shape) (tokens : List Token) (forest : Forest) → Ok tokens ≡ read_tokens text → Ok forest ≡ read_groups text tokens → forest_tokens forest ≡ tokens → Ok tt ≡ allowed text shape tokens → by_shape text shape forest ≡ outline text shape
-outline_read text shape tokens forest lexed grouped held fine =
-    ap (λ r. and_then r (λ fine. by_shape text shape forest)) (fine ∙ ap (allowed text shape) (sym held)) ∙ by_groups text shape tokens forest lexed grouped
+-- a text without a fault
+pub elements_read : (text : List ℕ) (forest : Forest) → length text ≤ LONGEST_SOURCE → ReadsAs text forest → Ok forest ≡ elements_of text
+unfolding elements_of
+elements_read text forest short read =
+    groups_read text (forest_tokens forest) (Ok forest) read.grouped
+    ∙ ap (λ r. and_then r (read_groups text)) (tokens_read text (Ok (forest_tokens forest)) short read.lexed)

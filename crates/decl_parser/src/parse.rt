@@ -1,8 +1,8 @@
 // A text into its outline.
 
-ghost use Rattle.std.specs.Prelude.{◌≡◌, ◌≤◌, IfOk, Ok, length};
+ghost use Rattle.std.specs.Prelude.{◌≡◌, ◌≤◌, ◌∷◌, [], IfOk, IfSome, Ok, length};
 ghost use Rattle.swift_lexer.specs.Tokens.{IsLexed};
-ghost use Rattle.swift_lexer.specs.Trees.{forest_of, forest_tokens};
+ghost use Rattle.swift_lexer.specs.Trees.{forest_of, forest_tokens, tree_of, tree_tokens};
 ghost use Rattle.swift_tree.specs.Outlines.{outline_of};
 ghost use Rattle.swift_tree.specs.declared.outline.Shape.TheVariants as shape;
 ghost use Rattle.element_marks.specs.Answers.{Answers};
@@ -15,8 +15,8 @@ use element_marks::{is_reserved, part};
 use std::alloc::Global;
 use swift_base::Refusal;
 use swift_lexer::{
-    Class, Element, GroupFault, LexFault, Token, group, groups_hold_the_tokens, lex,
-    one_group_outcome, one_token_outcome,
+    Class, Element, GroupFault, LexFault, Token, group, lex, one_group_outcome, one_token_outcome,
+    read_elements,
 };
 use swift_tree::{Outline, Shape};
 
@@ -59,19 +59,48 @@ pub fn parse_expression(alloc: Global, text: &[u8]) -> Result<Outline, Refusal<P
     parse(alloc, text, Shape::Expression)
 }
 
+#[tactic(auto, unfolding(crate::specs::Outline::outline))]
 fn parse(alloc: Global, text: &[u8], shape: Shape) -> Result<Outline, Refusal<ParseFault>>
     ensures { Answers outline_of result (IsOutline text.now shape) }
 {
-    let tokens = tokens_of(alloc, text)?;
-    let elements = groups_of(alloc, &tokens, text)?;
-    allowed(text, shape, &tokens)?;
+    let elements = read_all(alloc, text)?;
+    allowed(text, shape, &elements)?;
     by_shape(alloc, text, shape, &elements)
 }
 
 /// The elements of a text, or the first fault of its length, its tokens, and then its brackets.
-#[tactic(auto, unfolding(crate::specs::Outline::elements_of))]
 pub fn elements_of(alloc: Global, text: &[u8]) -> Result<Vec<Element>, Refusal<ParseFault>>
     ensures { Answers (λ elements. forest_of elements.items) result (λ outcome. outcome ≡ elements_of text.now) }
+{
+    read_all(alloc, text)
+}
+
+fn read_all(alloc: Global, text: &[u8]) -> Result<Vec<Element>, Refusal<ParseFault>>
+    ensures elements { Answers (λ elements. forest_of elements.items) result (λ outcome. outcome ≡ elements_of text.now) }
+    ensures short { IfOk result (λ _. length text.now ≤ LONGEST_SOURCE) }
+{
+    match read_at_once(alloc, text) {
+        Some(elements) => Ok(elements),
+        None => by_tokens(alloc, text),
+    }
+}
+
+/// The elements of a text without a fault.
+fn read_at_once(alloc: Global, text: &[u8]) -> Option<Vec<Element>>
+    ensures elements { IfSome result (λ elements. Ok (forest_of elements.items) ≡ elements_of text.now) }
+    ensures short { IfSome result (λ _. length text.now ≤ LONGEST_SOURCE) }
+{
+    if text.len() > LONGEST_SOURCE {
+        return None;
+    }
+    read_elements(alloc, text)
+}
+
+/// The elements of a text by a list of its tokens, or its first fault.
+#[tactic(auto, unfolding(crate::specs::Outline::elements_of))]
+fn by_tokens(alloc: Global, text: &[u8]) -> Result<Vec<Element>, Refusal<ParseFault>>
+    ensures elements { Answers (λ elements. forest_of elements.items) result (λ outcome. outcome ≡ elements_of text.now) }
+    ensures short { IfOk result (λ _. length text.now ≤ LONGEST_SOURCE) }
 {
     let tokens = tokens_of(alloc, text)?;
     groups_of(alloc, &tokens, text)
@@ -99,11 +128,9 @@ fn groups_of(
     text: &[u8],
 ) -> Result<Vec<Element>, Refusal<ParseFault>>
     requires { IsLexed text.now (Ok tokens.now) }
-    ensures groups { Answers (λ elements. forest_of elements.items) result (λ outcome. outcome ≡ read_groups text.now tokens.now) }
-    ensures held { IfOk result (λ elements. forest_tokens (forest_of elements.items) ≡ tokens.now) }
+    ensures { Answers (λ elements. forest_of elements.items) result (λ outcome. outcome ≡ read_groups text.now tokens.now) }
 {
     one_group_outcome();
-    groups_hold_the_tokens();
     match group(alloc, tokens, text) {
         Ok(elements) => Ok(elements),
         Err(swift_lexer::Refusal::Memory) => Err(Refusal::Memory),
@@ -114,23 +141,47 @@ fn groups_of(
 }
 
 /// Only a file is looked through for reserved words.
-fn allowed(text: &[u8], shape: Shape, tokens: &[Token]) -> Result<(), Refusal<ParseFault>>
-    ensures { Answers (λ fine. fine) result (λ outcome. outcome ≡ allowed text.now shape tokens.now) }
+fn allowed(text: &[u8], shape: Shape, elements: &[Element]) -> Result<(), Refusal<ParseFault>>
+    ensures { Answers (λ fine. fine) result (λ outcome. outcome ≡ allowed text.now shape (forest_tokens (forest_of elements.now))) }
 {
     match shape {
-        Shape::File => unreserved(text, tokens),
+        Shape::File => unreserved(text, elements),
         _ => Ok(()),
     }
 }
 
-/// No word of the text is one that only macros make.
-fn unreserved(text: &[u8], tokens: &[Token]) -> Result<(), Refusal<ParseFault>>
-    ensures { Answers (λ fine. fine) result (λ outcome. outcome ≡ unreserved text.now tokens.now) }
+/// No word among the elements is one that only macros make.
+fn unreserved(text: &[u8], elements: &[Element]) -> Result<(), Refusal<ParseFault>>
+    ensures { Answers (λ fine. fine) result (λ outcome. outcome ≡ unreserved text.now (forest_tokens (forest_of elements.now))) }
 {
-    'tokens: for token in tokens {
-        if is_reserved(name_bytes(text, *token)) {
-            return Err(fault(token.start, ParseKind::ReservedWord));
+    'elements: for element in elements {
+        unreserved_in(text, element)?;
+    }
+    Ok(())
+}
+
+/// The same of one element.
+fn unreserved_in(text: &[u8], element: &Element) -> Result<(), Refusal<ParseFault>>
+    ensures { Answers (λ fine. fine) result (λ outcome. outcome ≡ unreserved text.now (tree_tokens (tree_of element.now))) }
+{
+    match element {
+        Element::Leaf(token) => unreserved_token(text, *token),
+        Element::Nest(group) => {
+            unreserved_token(text, group.left)?;
+            let inner = group.inner.as_slice();
+            'inner: for part in inner.iter() {
+                unreserved_in(text, part)?;
+            }
+            unreserved_token(text, group.right)
         }
+    }
+}
+
+fn unreserved_token(text: &[u8], token: Token) -> Result<(), Refusal<ParseFault>>
+    ensures { Answers (λ fine. fine) result (λ outcome. outcome ≡ unreserved text.now (token ∷ [])) }
+{
+    if is_reserved(name_bytes(text, token)) {
+        return Err(fault(token.start, ParseKind::ReservedWord));
     }
     Ok(())
 }

@@ -226,6 +226,35 @@ fn groups_and_mismatches(rt: HostRuntime) {
     }
 }
 
+/// Groups that are read at once are there wherever the tokens and their groups are.
+#[test]
+fn groups_are_read_at_once(rt: HostRuntime) {
+    let alloc = rt.alloc();
+    for (text, _) in READ {
+        let found = read_at_once(&rt, alloc, text.as_bytes());
+        let wanted = grouped(&rt, alloc, text.as_bytes()).is_some_and(|groups| groups.is_ok());
+        assert_eq!(rt; found.is_some(), wanted, "{text}");
+    }
+    match read_at_once(&rt, alloc, b"(a)") {
+        Some(elements) => assert!(rt; is_one_leaf_in_brackets(&elements)),
+        None => assert!(rt; false),
+    }
+    for (text, at, _) in REFUSED {
+        assert!(rt; read_at_once(&rt, alloc, text).is_none(), "at {at}");
+    }
+    for (text, _, _) in UNGROUPED {
+        assert!(rt;
+            read_at_once(&rt, alloc, text.as_bytes()).is_none(),
+            "{text}"
+        );
+    }
+}
+
+fn read_at_once(rt: &impl Abort, alloc: Global, text: &[u8]) -> Option<Vec<Element>> {
+    assert!(rt; text.len() <= LONGEST_TEXT);
+    read_elements(alloc, text)
+}
+
 fn is_one_leaf_in_brackets(elements: &[Element]) -> bool {
     match elements {
         [Element::Nest(group)] => match group.inner.as_slice() {

@@ -1,6 +1,7 @@
 use Rattle.std.proofs.Common.{◌≡◌, drop}
+use Rattle.swift_lexer.specs.Trees.{forest_of, forest_tokens}
 use Rattle.decl_parser.specs.Outline.{unreserved}
 use Rattle.decl_parser.proofs.parse.unreserved.Given as goal
 
-abbrev pub invariant-tokens : goal.invariant-tokens
-invariant-tokens l = unreserved l.text (drop l.token-index l.tokens) ≡ unreserved l.text l.tokens
+abbrev pub invariant-elements : goal.invariant-elements
+invariant-elements l = unreserved l.text (forest_tokens (forest_of (drop l.element-index l.elements))) ≡ unreserved l.text (forest_tokens (forest_of l.elements))
