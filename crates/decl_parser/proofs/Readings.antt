@@ -7,7 +7,6 @@ use Rattle.swift_lexer.specs.Groups.{GroupOutcome, IsGrouped}
 use Rattle.swift_lexer.proofs.OneOutcome.{one_token_outcome}
 use Rattle.swift_lexer.proofs.SomeOutcome.{some_token_outcome}
 use Rattle.swift_lexer.proofs.OneGrouping.{one_group_outcome}
-use Rattle.decl_parser.specs.declared.fault.ParseFault.{ParseFault}
 use Rattle.decl_parser.specs.declared.parse.TheConstants.{LONGEST_SOURCE}
 use Rattle.decl_parser.specs.declared.fault.ParseKind.TheVariants.{SourceTooLarge}
 use Rattle.decl_parser.specs.Faults.{fault}
@@ -15,10 +14,8 @@ use Rattle.swift_lexer.specs.Bracketing.{groups_of}
 use Rattle.swift_lexer.specs.Reads.{ReadsAs}
 use Rattle.swift_lexer.proofs.SomeGrouping.{some_group_outcome}
 use Rattle.swift_lexer.specs.Trees.{Forest, forest_tokens}
-use Rattle.swift_tree.specs.declared.outline.Shape.{Shape}
 use Rattle.element_marks.specs.Answers.{and_then}
-use Rattle.decl_parser.specs.Fragments.{by_shape}
-use Rattle.decl_parser.specs.Outline.{allowed, elements_of, tokens_of, lexed, grouped, outline, outline_by, read_tokens, read_groups}
+use Rattle.decl_parser.specs.Outline.{elements_of, tokens_of, lexed, grouped, read_tokens, read_groups}
 
 the_tokens : (text : List ℕ) (outcome : Outcome) → IsLexed text outcome → outcome ≡ tokens_of text
 unfolding tokens_of

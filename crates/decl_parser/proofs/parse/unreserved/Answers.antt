@@ -1,4 +1,4 @@
-use Rattle.std.proofs.Common.{◌≡◌, ◌∙◌, ◌+◌, ◌++◌, ap, sym, drop}
+use Rattle.std.proofs.Common.{◌∙◌, ◌+◌, ap, sym, drop}
 use Rattle.std.proofs.lemmas.Result.{err_from_is_err_and}
 use Rattle.swift_lexer.specs.Trees.{forest_of, forest_tokens, tree_of, tree_tokens}
 use Rattle.swift_lexer.proofs.Trees.{forest_of-drop}
