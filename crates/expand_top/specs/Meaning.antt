@@ -26,6 +26,11 @@ pub data Meaning : Type 0 where
   Refused : Output → Meaning
   Means : OutlineSeen → List MacroDecl → Meaning
 
+-- the source, where the files mean one
+abbrev pub source_of : Meaning → Option OutlineSeen
+source_of (Refused output) = None
+source_of (Means source macros) = Some source
+
 -- a fault stands in the file of its number
 abbrev pub line_in : Option NamedText → MacroFault → List ℕ
 line_in None fault = []

@@ -11,7 +11,7 @@ ghost use Rattle.expand_top.specs.declared.command.Command.TheVariants as Comman
 ghost use Rattle.expand_top.specs.Command.{named_in, named_seen, command_named, command_of};
 ghost use Rattle.expand_top.specs.Asking.{IsStartable, IsExpansion, asking_of};
 ghost use Rattle.expand_top.specs.Lines.{output_seen};
-ghost use Rattle.expand_top.specs.Meaning.{Means, meaning_of};
+ghost use Rattle.expand_top.specs.Meaning.{Means, meaning_of, source_of};
 ghost use Rattle.expand_top.specs.Means.{meaning_seen, IsSound, IsSoundSource};
 ghost use Rattle.expand_top.specs.Run.{IsDelivered, GainsAll, GainsFront, ReadsSource, ReadsNext, ReadsInputs, IsShort, IsRefused, IsUnwritten, Expands, usage};
 ghost use Rattle.expand_top.specs.Promises.{AskedOnce, LinksServe, Starts, StopsHaveCause, FailedStartsHaveCause, KeepsBytes, StatusHasCause};
@@ -123,18 +123,25 @@ fn read_inputs<F: Files>(
 // What is handed back and written.
 #[derive(Drop)]
 struct Expansion<W: Drop, R: Drop> {
+    source: Option<Outline>,
     links: Vec<Closed<W, R>>,
     unstarted: Vec<Unstarted>,
     output: Output,
 }
 
-fn expanded_with<W: Drop, R: Drop>(ran: Ran<W, R>, output: Output) -> Expansion<W, R>
+fn expanded_with<W: Drop, R: Drop>(
+    source: Outline,
+    ran: Ran<W, R>,
+    output: Output,
+) -> Expansion<W, R>
+    ensures source { result.source ≡ Some source }
     ensures links { result.links ≡ ran.links }
     ensures unstarted { result.unstarted ≡ ran.unstarted }
     ensures output { result.output ≡ output }
 {
     let Ran { links, unstarted } = ran;
     Expansion {
+        source: Some(source),
         links,
         unstarted,
         output,
@@ -143,11 +150,13 @@ fn expanded_with<W: Drop, R: Drop>(ran: Ran<W, R>, output: Output) -> Expansion<
 
 // A refusal is written, and nothing is asked.
 fn nothing_asked<W: Drop, R: Drop>(alloc: Global, output: Output) -> Expansion<W, R>
+    ensures source { result.source ≡ None }
     ensures links { result.links.items ≡ [] }
     ensures unstarted { result.unstarted.items ≡ [] }
     ensures output { result.output ≡ output }
 {
     Expansion {
+        source: None,
         links: Vec::new(alloc),
         unstarted: Vec::new(alloc),
         output,
@@ -166,13 +175,15 @@ fn expand_buffer<P: Starter>(
     requires sound { IsSoundSource (outline_of source) }
     requires readable { All IsDeclReadable macros.now }
     requires commands { All IsStartable plugins.now }
-    ensures { IfOk result (λ e. IsExpansion name.now plugins.now (Means (outline_of source) macros.now)
+    ensures source { IfOk result (λ e. option_map outline_of e.source ≡ Some (outline_of source)) }
+    ensures expansion { IfOk result (λ e. IsExpansion name.now plugins.now (Means (outline_of source) macros.now)
         (asking_of (map (link_seen P.Writer.seen P.Reader.seen) e.links.items) e.unstarted.items (P.seen starter.old) (P.seen starter.new)) (output_seen e.output)) }
 {
     let buffer = Buffer::source(alloc, name, source)?;
     let Answered { ran, answer } = expand_source(alloc, starter, plugins, &buffer, macros)?;
     let output = output_of(alloc, name, answer)?;
-    Ok(expanded_with(ran, output))
+    let Buffer { outline, .. } = buffer;
+    Ok(expanded_with(outline, ran, output))
 }
 
 // What is asked and written for what the files mean.
@@ -185,7 +196,8 @@ fn expand_meaning<P: Starter>(
 ) -> Result<Expansion<P::Writer, P::Reader>, AllocError>
     requires sound { IsSound means }
     requires commands { All IsStartable plugins.now }
-    ensures { IfOk result (λ e. IsExpansion name.now plugins.now (meaning_seen means)
+    ensures source { IfOk result (λ e. option_map outline_of e.source ≡ source_of (meaning_seen means)) }
+    ensures expansion { IfOk result (λ e. IsExpansion name.now plugins.now (meaning_seen means)
         (asking_of (map (link_seen P.Writer.seen P.Reader.seen) e.links.items) e.unstarted.items (P.seen starter.old) (P.seen starter.new)) (output_seen e.output)) }
 {
     match means {
@@ -213,6 +225,7 @@ fn expand<F: Files, P: Starter>(
 ) -> Result<Done<P::Writer, P::Reader>, AllocError>
     requires { All IsStartable plugins.now }
     ensures read { IfOk result (λ d. ReadsInputs (F.seen files.old) (F.seen files.new) (option_copied macros.entry) name.now d.read) }
+    ensures source { IfOk result (λ d. option_map outline_of d.expansion.source ≡ source_of (meaning_of (option_copied macros.entry) name.now d.read)) }
     ensures expansion { IfOk result (λ d. IsExpansion name.now plugins.now (meaning_of (option_copied macros.entry) name.now d.read)
         (asking_of (map (link_seen P.Writer.seen P.Reader.seen) d.expansion.links.items) d.expansion.unstarted.items (P.seen starter.old) (P.seen starter.new)) (output_seen d.expansion.output)) }
 {
@@ -248,6 +261,7 @@ fn out_of_memory<W: Drop, R: Drop>(alloc: Global) -> Ended<W, R>
     Ended {
         status: 5,
         read: nothing_read(),
+        source: None,
         links: Vec::new(alloc),
         unstarted: Vec::new(alloc),
     }
@@ -269,6 +283,7 @@ fn refuse<W: Drop, R: Drop, O: Sink, E: Sink>(
     Ended {
         status,
         read: nothing_read(),
+        source: None,
         links: Vec::new(alloc),
         unstarted: Vec::new(alloc),
     }
@@ -286,6 +301,7 @@ fn run_expand<F: Files, O: Sink, E: Sink, P: Starter>(
 ) -> Ended<P::Writer, P::Reader>
     requires { All IsStartable plugins.now }
     ensures memory { result.status ≡ 5 → IsUnwritten (O.seen out.old) (O.seen out.new) (E.seen err.old) (E.seen err.new) }
+    ensures source { (result.status ≡ 5 → ⊥) → option_map outline_of result.source ≡ source_of (meaning_of (option_copied macros.entry) name.now result.read) }
     ensures expanded { (result.status ≡ 5 → ⊥) → Expands (option_copied macros.entry) name.now plugins.now (F.seen files.old) (F.seen files.new)
         (O.seen out.old) (O.seen out.new) (E.seen err.old) (E.seen err.new) result.status result.read
         (asking_of (map (link_seen P.Writer.seen P.Reader.seen) result.links.items) result.unstarted.items (P.seen starter.old) (P.seen starter.new)) }
@@ -297,6 +313,7 @@ fn run_expand<F: Files, O: Sink, E: Sink, P: Starter>(
     Ended {
         status,
         read: done.read,
+        source: done.expansion.source,
         links: done.expansion.links,
         unstarted: done.expansion.unstarted,
     }
@@ -313,6 +330,8 @@ fn run_named<F: Files, O: Sink, E: Sink, P: Starter>(
     ensures refused { command_named (named_seen named.entry) ≡ None
         → IsRefused (O.seen out.old) (O.seen out.new) (E.seen err.old) (E.seen err.new) result.status result.links.items result.unstarted.items }
     ensures untouched { command_named (named_seen named.entry) ≡ None → (files.new ≡ files.old) × (starter.new ≡ starter.old) }
+    ensures source { (name : List ℕ) (macros : Option (List ℕ)) (plugins : List Plugin) → command_named (named_seen named.entry) ≡ Some (Command.Expand name macros plugins)
+        → (result.status ≡ 5 → ⊥) → option_map outline_of result.source ≡ source_of (meaning_of macros name result.read) }
     ensures expanded { (name : List ℕ) (macros : Option (List ℕ)) (plugins : List Plugin) → command_named (named_seen named.entry) ≡ Some (Command.Expand name macros plugins)
         → (result.status ≡ 5 → ⊥) → Expands macros name plugins (F.seen files.old) (F.seen files.new)
         (O.seen out.old) (O.seen out.new) (E.seen err.old) (E.seen err.new) result.status result.read
@@ -366,6 +385,10 @@ pub fn run<T: AllocGlobal + Copy + Drop, F: Files, O: Sink, E: Sink, P: Starter>
     ensures failed_starts { (name : List ℕ) (macros : Option (List ℕ)) (plugins : List Plugin) → command_of (map string_bytes words.now) ≡ Some (Command.Expand name macros plugins)
         → (result.status ≡ 5 → ⊥) → FailedStartsHaveCause
         (asking_of (map (link_seen P.Writer.seen P.Reader.seen) result.links.items) result.unstarted.items (P.seen starter.old) (P.seen starter.new)) }
+
+    // The outline that is handed back is the source's, where its files mean one.
+    ensures source { (name : List ℕ) (macros : Option (List ℕ)) (plugins : List Plugin) → command_of (map string_bytes words.now) ≡ Some (Command.Expand name macros plugins)
+        → (result.status ≡ 5 → ⊥) → option_map outline_of result.source ≡ source_of (meaning_of macros name result.read) }
 
     ensures kept { (name : List ℕ) (macros : Option (List ℕ)) (plugins : List Plugin) → command_of (map string_bytes words.now) ≡ Some (Command.Expand name macros plugins)
         → (result.status ≡ 5 → ⊥) → KeepsBytes macros name plugins result.read result.status (O.seen out.old) (O.seen out.new) }

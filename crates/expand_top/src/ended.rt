@@ -1,6 +1,7 @@
 // What a run hands back.
 use link_driver::{Closed, Unstarted};
 use swift_base::Text;
+use swift_tree::Outline;
 
 /// How a file was read.
 #[derive(Drop)]
@@ -20,11 +21,13 @@ pub struct Inputs {
     pub source: SourceRead,
 }
 
-/// A run as it ended: its status, its files, the processes in the order of their starts, and the starts that failed.
+/// A run as it ended: its status, its files, the outline of an accepted source, the processes in the order of their
+/// starts, and the starts that failed.
 #[derive(Drop)]
 pub struct Ended<W: Drop, R: Drop> {
     pub status: u8,
     pub read: Inputs,
+    pub source: Option<Outline>,
     pub links: Vec<Closed<W, R>>,
     pub unstarted: Vec<Unstarted>,
 }

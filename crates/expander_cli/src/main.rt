@@ -31,5 +31,9 @@ fn main(rt: HostRuntime) -> ExitCode {
     let mut err = StdSink::new(io::writer(&stderr));
     let mut starter = ChildStarter::new(rt);
     let ended = run(rt, &words, &mut files, &mut out, &mut err, &mut starter);
+    if let Some(source) = ended.source {
+        // The process ends, and its memory with it: nothing has to be taken apart.
+        source.items.leak();
+    }
     ExitCode::from(ended.status)
 }

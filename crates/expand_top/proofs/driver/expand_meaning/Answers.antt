@@ -7,8 +7,8 @@ use Rattle.expand_top.specs.Means.{meaning_seen}
 use Rattle.expand_top.proofs.Promises.{nothing_expanded}
 use Rattle.expand_top.proofs.driver.expand_meaning.Goals as goal
 
-pub returns-in-Refused : goal.returns-in-Refused
-returns-in-Refused g c =
+pub returns-in-Refused-clause-expansion : goal.returns-in-Refused-clause-expansion
+returns-in-Refused-clause-expansion g c =
     let name = c.args.name.now in
     let plugins = c.args.plugins.now in
     let seen = g.P.Starter.seen c.args.starter.now in

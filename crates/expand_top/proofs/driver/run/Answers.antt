@@ -44,6 +44,12 @@ returns-clause-failed_starts g c = λ name macros plugins is ok.
 pub returns-in_default-clause-failed_starts : goal.returns-in_default-clause-failed_starts
 returns-in_default-clause-failed_starts g c = λ name macros plugins is. absurd (none_some _ (sym c.in_default.ensures.none ∙ is))
 
+pub returns-clause-source : goal.returns-clause-source
+returns-clause-source g c = λ name macros plugins is. c.run_named.ensures.source name macros plugins (sym c.in-Some.ensures.some ∙ is)
+
+pub returns-in_default-clause-source : goal.returns-in_default-clause-source
+returns-in_default-clause-source g c = λ name macros plugins is. absurd (none_some _ (sym c.in_default.ensures.none ∙ is))
+
 pub returns-clause-kept : goal.returns-clause-kept
 returns-clause-kept g c = λ name macros plugins is ok.
     let done = c.run_named.ensures.expanded name macros plugins (sym c.in-Some.ensures.some ∙ is) ok in keeps_bytes c.edits_are_made.ensures macros name plugins _ _ done.output _ _ _ _ _ _ _ done.reads done.expands done.delivered
