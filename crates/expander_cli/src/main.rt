@@ -3,11 +3,12 @@
 //! What these really carry is left to the operating system.
 #![tactic(auto)]
 
-use expand_top::run;
+use expand_top::{Ended, run};
 use real_links::{ChildStarter, StdFiles, StdSink};
 use std::alloc::AllocError;
 use std::process::ExitCode;
 use std::{env, io};
+use swift_tree::Outline;
 
 // The words after the program's name; none where one isn't UTF-8, so that the usage text is printed.
 fn words(rt: &HostRuntime) -> Result<Vec<String>, AllocError> {
@@ -21,6 +22,13 @@ fn words(rt: &HostRuntime) -> Result<Vec<String>, AllocError> {
     Ok(words)
 }
 
+// The process ends, and its memory with it: the declarations don't have to be taken apart.
+fn leave(source: Option<Outline>) {
+    if let Some(Outline { items, .. }) = source {
+        items.leak();
+    }
+}
+
 fn main(rt: HostRuntime) -> ExitCode {
     let Ok(words) = words(&rt) else {
         return ExitCode::from(5);
@@ -31,9 +39,7 @@ fn main(rt: HostRuntime) -> ExitCode {
     let mut err = StdSink::new(io::writer(&stderr));
     let mut starter = ChildStarter::new(rt);
     let ended = run(rt, &words, &mut files, &mut out, &mut err, &mut starter);
-    if let Some(source) = ended.source {
-        // The process ends, and its memory with it: nothing has to be taken apart.
-        source.items.leak();
-    }
-    ExitCode::from(ended.status)
+    let Ended { status, source, .. } = ended;
+    leave(source);
+    ExitCode::from(status)
 }
