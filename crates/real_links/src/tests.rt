@@ -60,10 +60,9 @@ fn a_child_that_ends_early_fails_the_write(rt: HostRuntime) -> Result<(), Fail> 
     let (mut writer, mut reader) = starter.start(rt.alloc(), "true").map_err(|_| "a child")?;
     let mut room = [0u8; 4];
     assert_eq!(rt; reader.read(&mut room), Ok(0));
-    assert_eq!(rt;
-        write_all(&mut writer, b"too late"),
-        Err(WriteFault::Failed)
-    );
+    // More than a pipe holds, since a child's output may be closed a moment before its input is.
+    let late = vec![in rt.alloc(); b'x'; 131_072]?;
+    assert_eq!(rt; write_all(&mut writer, &late), Err(WriteFault::Failed));
     Ok(())
 }
 
