@@ -16,6 +16,7 @@ use Rattle.decl_parser.specs.declared.inside.BlockAt.{BlockAt}
 use Rattle.decl_parser.specs.declared.parts.Parts.{Parts}
 use Rattle.decl_parser.specs.declared.bindings.Bound.{Bound}
 use Rattle.decl_parser.specs.declared.bindings.Tail.{Tail}
+use Rattle.decl_parser.specs.Held.{Held}
 use Rattle.decl_parser.specs.Insides.{first_inside, block_here}
 use Rattle.decl_parser.specs.Bindings.{has_observers, with_initializer, blocked, without_initializer, by_equals, tail_of, binding_of, bindings_from, type_before}
 use Rattle.decl_parser.specs.Parts.{with_members, of_type, extending, of_extension, with_body, code, first_name, function_name, case_names, last_block, named, of_variable, parts, has_members}
@@ -81,9 +82,9 @@ module _ (from to : ℕ) where
   abbrev BoundFits : Bound → Type 0
   BoundFits bound = BlockBetween from to bound.block
 
-  bound_fits : (marks : List Mark) (insides : List Inside) → InOrder from marks to → OkHolds BoundFits (binding_of marks insides)
-  bound_fits [] insides lies = tt
-  bound_fits (pattern_ ∷ marks) insides lies =
+  bound_fits : (marks : List Mark) (insides : List Inside) (held : List Held) → InOrder from marks to → OkHolds BoundFits (binding_of marks insides held)
+  bound_fits [] insides held lies = tt
+  bound_fits (pattern_ ∷ marks) insides held lies =
       let rest = lies_drop 1 from to (pattern_ ∷ marks) lies in
       ok_if BoundFits (is_pattern pattern_) _ _
       (λ is. ok_then BoundFits (tail_of marks (drop 1 insides)) _ (λ tail found. ok_at TailFits (tail_of marks (drop 1 insides)) tail found
@@ -94,17 +95,17 @@ module _ (from to : ℕ) where
   BoundsFit [] = Unit {0}
   BoundsFit (first ∷ others) = BoundFits first × BoundsFit others
 
-  bounds_fit : (anchor : Option ℕ) (inside : ℕ) (marks : List Mark) (insides : List Inside) → InOrder from marks to → OkHolds BoundsFit (bindings_from anchor inside marks insides)
-  bounds_fit None inside [] insides lies = tt
-  bounds_fit (Some anchor) inside [] insides lies = tt
-  bounds_fit None (suc inside) (mark ∷ marks) insides lies = bounds_fit None inside marks (drop 1 insides) (lies_drop 1 from to (mark ∷ marks) lies)
-  bounds_fit None zero (comma ∷ marks) insides lies = bounds_fit (Some comma.start) 0 marks (drop 1 insides) (lies_drop 1 from to (comma ∷ marks) lies)
-  bounds_fit (Some anchor) inside (pattern_ ∷ marks) insides lies =
+  bounds_fit : (anchor : Option ℕ) (inside : ℕ) (marks : List Mark) (insides : List Inside) (held : List Held) → InOrder from marks to → OkHolds BoundsFit (bindings_from anchor inside marks insides held)
+  bounds_fit None inside [] insides held lies = tt
+  bounds_fit (Some anchor) inside [] insides held lies = tt
+  bounds_fit None (suc inside) (mark ∷ marks) insides held lies = bounds_fit None inside marks (drop 1 insides) (drop 1 held) (lies_drop 1 from to (mark ∷ marks) lies)
+  bounds_fit None zero (comma ∷ marks) insides held lies = bounds_fit (Some comma.start) 0 marks (drop 1 insides) (drop 1 held) (lies_drop 1 from to (comma ∷ marks) lies)
+  bounds_fit (Some anchor) inside (pattern_ ∷ marks) insides held lies =
       let behind = binding_length false 0 0 marks in
-      ok_then BoundsFit (binding_of (pattern_ ∷ take behind marks) insides) _ (λ first is.
-      ok_then BoundsFit (bindings_from None behind marks (drop 1 insides)) _ (λ others are. (
-        ok_at BoundFits (binding_of (pattern_ ∷ take behind marks) insides) first is (bound_fits (pattern_ ∷ take behind marks) insides (lies_take (suc behind) from to (pattern_ ∷ marks) lies)),
-        ok_at BoundsFit (bindings_from None behind marks (drop 1 insides)) others are (bounds_fit None behind marks (drop 1 insides) (lies_drop 1 from to (pattern_ ∷ marks) lies)),
+      ok_then BoundsFit (binding_of (pattern_ ∷ take behind marks) insides held) _ (λ first is.
+      ok_then BoundsFit (bindings_from None behind marks (drop 1 insides) (drop 1 held)) _ (λ others are. (
+        ok_at BoundFits (binding_of (pattern_ ∷ take behind marks) insides held) first is (bound_fits (pattern_ ∷ take behind marks) insides held (lies_take (suc behind) from to (pattern_ ∷ marks) lies)),
+        ok_at BoundsFit (bindings_from None behind marks (drop 1 insides) (drop 1 held)) others are (bounds_fit None behind marks (drop 1 insides) (drop 1 held) (lies_drop 1 from to (pattern_ ∷ marks) lies)),
       )))
 
   last_fits : (bounds : List Bound) → BoundsFit bounds → BlockBetween from to (last_block bounds)
@@ -141,29 +142,29 @@ module _ (from to : ℕ) where
   named_fits : (starter : Mark) (marks : List Mark) → OkHolds PlainFits (named starter marks)
   named_fits starter marks = ok_then PlainFits (first_name starter marks) _ (λ name is. tt)
 
-  variable_fits : (starter : Mark) (marks : List Mark) (insides : List Inside) → InOrder from marks to → OkHolds PlainFits (of_variable starter marks insides)
-  variable_fits starter marks insides lies =
-      ok_then PlainFits (bindings_from (Some starter.start) 0 marks insides) _ (λ bounds is. last_fits bounds (ok_at BoundsFit (bindings_from (Some starter.start) 0 marks insides) bounds is (bounds_fit (Some starter.start) 0 marks insides lies)))
+  variable_fits : (starter : Mark) (marks : List Mark) (insides : List Inside) (held : List Held) → InOrder from marks to → OkHolds PlainFits (of_variable starter marks insides held)
+  variable_fits starter marks insides held lies =
+      ok_then PlainFits (bindings_from (Some starter.start) 0 marks insides held) _ (λ bounds is. last_fits bounds (ok_at BoundsFit (bindings_from (Some starter.start) 0 marks insides held) bounds is (bounds_fit (Some starter.start) 0 marks insides held lies)))
 
   -- one row a kind
-  pub parts_fit : (of_kind : Kind) (starter : Mark) (marks : List Mark) (insides : List Inside) → InOrder from marks to → OkHolds (BlockFits (has_members of_kind) from to marks) (parts of_kind starter marks insides)
-  parts_fit kind.Import starter marks insides lies = tt
-  parts_fit kind.Typealias starter marks insides lies = named_fits starter marks
-  parts_fit kind.Associatedtype starter marks insides lies = named_fits starter marks
-  parts_fit kind.Struct starter marks insides lies = type_fits starter marks
-  parts_fit kind.Class starter marks insides lies = type_fits starter marks
-  parts_fit kind.Enum starter marks insides lies = type_fits starter marks
-  parts_fit kind.Protocol starter marks insides lies = type_fits starter marks
-  parts_fit kind.Extension starter marks insides lies = extension_fits starter marks
-  parts_fit kind.Func starter marks insides lies = ok_then PlainFits (function_name starter marks) _ (λ name is. code_fits false name marks insides lies)
-  parts_fit kind.Var starter marks insides lies = variable_fits starter marks insides lies
-  parts_fit kind.Let starter marks insides lies = variable_fits starter marks insides lies
-  parts_fit kind.Init starter marks insides lies = code_fits false (span_of starter) marks insides lies
-  parts_fit kind.Deinit starter marks insides lies = code_fits false (span_of starter) marks insides lies
-  parts_fit kind.Subscript starter marks insides lies = code_fits true (span_of starter) marks insides lies
-  parts_fit kind.Case starter marks insides lies = ok_then PlainFits (case_names (Some starter.start) marks) _ (λ names is. tt)
-  parts_fit kind.Operator starter marks insides lies = tt
-  parts_fit kind.Precedencegroup starter marks insides lies = tt
-  parts_fit kind.Actor starter marks insides lies = type_fits starter marks
-  parts_fit kind.Macro starter marks insides lies = named_fits starter marks
-  parts_fit kind.UseItem starter marks insides lies = tt
+  pub parts_fit : (of_kind : Kind) (starter : Mark) (marks : List Mark) (insides : List Inside) (held : List Held) → InOrder from marks to → OkHolds (BlockFits (has_members of_kind) from to marks) (parts of_kind starter marks insides held)
+  parts_fit kind.Import starter marks insides held lies = tt
+  parts_fit kind.Typealias starter marks insides held lies = named_fits starter marks
+  parts_fit kind.Associatedtype starter marks insides held lies = named_fits starter marks
+  parts_fit kind.Struct starter marks insides held lies = type_fits starter marks
+  parts_fit kind.Class starter marks insides held lies = type_fits starter marks
+  parts_fit kind.Enum starter marks insides held lies = type_fits starter marks
+  parts_fit kind.Protocol starter marks insides held lies = type_fits starter marks
+  parts_fit kind.Extension starter marks insides held lies = extension_fits starter marks
+  parts_fit kind.Func starter marks insides held lies = ok_then PlainFits (function_name starter marks) _ (λ name is. code_fits false name marks insides lies)
+  parts_fit kind.Var starter marks insides held lies = variable_fits starter marks insides held lies
+  parts_fit kind.Let starter marks insides held lies = variable_fits starter marks insides held lies
+  parts_fit kind.Init starter marks insides held lies = code_fits false (span_of starter) marks insides lies
+  parts_fit kind.Deinit starter marks insides held lies = code_fits false (span_of starter) marks insides lies
+  parts_fit kind.Subscript starter marks insides held lies = code_fits true (span_of starter) marks insides lies
+  parts_fit kind.Case starter marks insides held lies = ok_then PlainFits (case_names (Some starter.start) marks) _ (λ names is. tt)
+  parts_fit kind.Operator starter marks insides held lies = tt
+  parts_fit kind.Precedencegroup starter marks insides held lies = tt
+  parts_fit kind.Actor starter marks insides held lies = type_fits starter marks
+  parts_fit kind.Macro starter marks insides held lies = named_fits starter marks
+  parts_fit kind.UseItem starter marks insides held lies = tt

@@ -22,13 +22,12 @@ use Rattle.decl_parser.proofs.Ordered.{InOrder, Beside, HasAt, has_at, bounds, n
 
 -- what stands inside an element lies between its brackets
 pub record InsideLies (start : ℕ) (inside : Inside) (end : ℕ) : Type 0 where
-  pub names : PartsLie (start + 1) inside.names (end - 1)
   pub uses : UsesLie (start + 1) inside.uses (end - 1)
   pub locals : LocalsLie (start + 1) inside.locals (end - 1)
 
 -- the same of what stands inside the first element, where there is one
 pub first_lies : (mark : Mark) (marks : List Mark) (insides : List Inside) → Beside InsideLies (mark ∷ marks) insides → InsideLies mark.start (first_inside insides) mark.end
-first_lies mark marks [] holds = record { names = tt; uses = tt; locals = tt }
+first_lies mark marks [] holds = record { uses = tt; locals = tt }
 first_lies mark marks (inside ∷ insides) holds = holds.0
 
 inside_uses : (from : ℕ) (mark : Mark) (marks : List Mark) (insides : List Inside) → from ≤ mark.start → Beside InsideLies (mark ∷ marks) insides → UsesLie from (first_inside insides).uses mark.end

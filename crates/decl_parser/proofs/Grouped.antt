@@ -1,12 +1,16 @@
 -- What stands inside the elements of a list, each by its place.
-use Rattle.std.proofs.Common.{◌≡◌, refl, ℕ, zero, suc, ◌≤◌, ◌<◌, ◌==◌, ◌∙◌, ap, arith, append_assoc, length, List, [], ◌∷◌, ◌++◌, drop, take, get_or, Some, None, Ok, false}
+use Rattle.std.proofs.Common.{◌≡◌, refl, ℕ, zero, suc, ◌≤◌, ◌<◌, ◌==◌, ◌∙◌, ap, arith, append_assoc, length, List, [], ◌∷◌, ◌++◌, drop, take, get_or, slice_get, subst, sym, Some, None, Ok, true, false}
 use Rattle.swift_lexer.specs.declared.element.Element.{Element}
 use Rattle.swift_lexer.specs.Trees.{Tree, Forest, leaf, nest, tree_of, forest_of}
 use Rattle.decl_parser.specs.declared.inside.Inside.{Inside}
-use Rattle.decl_parser.specs.Insides.{nothing_inside}
-use Rattle.decl_parser.specs.Cut.{first_members, without}
-use Rattle.decl_parser.specs.Levels.{inside_of, insides, members_of, members, members_by, items_of_list, tree_inside, tree_size, forest_size}
+use Rattle.decl_parser.specs.Insides.{AreBlank, IsBlankList, nothing_inside}
+use Rattle.decl_parser.specs.Bindings.{names_inside}
+use Rattle.decl_parser.specs.Cut.{without}
+use Rattle.decl_parser.specs.Held.{first_held}
+use Rattle.decl_parser.specs.Levels.{are_silent, held, held_of, inside_of, insides, members_by, items_of_list, tree_inside, tree_size, forest_size}
 use Rattle.decl_parser.specs.Fragments.{one_group}
+use Rattle.decl_parser.proofs.QuietGroups.{blank_around, length_insides, silent_insides}
+use Rattle.std.proofs.lemmas.List.{length-append, length-drop, length-take}
 
 -- two elements or more are no one group
 pub one_group_more : (first : Element) (others : List Element) → false ≡ (length others == 0) → one_group (forest_of (first ∷ others)) ≡ None
@@ -27,38 +31,38 @@ insides_drop text zero (element ∷ elements) = refl
 insides_drop text (suc n) [] = refl
 insides_drop text (suc n) (element ∷ elements) = insides_drop text n elements
 
-pub members_take : (text : List ℕ) (n : ℕ) (elements : List Element) → members text (forest_of (take n elements)) ≡ take n (members text (forest_of elements))
-unfolding members
-members_take text zero [] = refl
-members_take text zero (element ∷ elements) = refl
-members_take text (suc n) [] = refl
-members_take text (suc n) (element ∷ elements) = ap (λ l. members_of text (tree_of element) ∷ l) (members_take text n elements)
+pub held_take : (text : List ℕ) (n : ℕ) (elements : List Element) → held text (forest_of (take n elements)) ≡ take n (held text (forest_of elements))
+unfolding held
+held_take text zero [] = refl
+held_take text zero (element ∷ elements) = refl
+held_take text (suc n) [] = refl
+held_take text (suc n) (element ∷ elements) = ap (λ l. held_of text (tree_of element) ∷ l) (held_take text n elements)
 
-pub members_drop : (text : List ℕ) (n : ℕ) (elements : List Element) → members text (forest_of (drop n elements)) ≡ drop n (members text (forest_of elements))
-unfolding members
-members_drop text zero [] = refl
-members_drop text zero (element ∷ elements) = refl
-members_drop text (suc n) [] = refl
-members_drop text (suc n) (element ∷ elements) = members_drop text n elements
+pub held_drop : (text : List ℕ) (n : ℕ) (elements : List Element) → held text (forest_of (drop n elements)) ≡ drop n (held text (forest_of elements))
+unfolding held
+held_drop text zero [] = refl
+held_drop text zero (element ∷ elements) = refl
+held_drop text (suc n) [] = refl
+held_drop text (suc n) (element ∷ elements) = held_drop text n elements
 
 -- where there is no element at the place, there are no members
-pub members_absent : (text : List ℕ) (n : ℕ) (elements : List Element) → length elements ≤ n → first_members (drop n (members text (forest_of elements))) ≡ Ok []
-unfolding members
+pub members_absent : (text : List ℕ) (n : ℕ) (elements : List Element) → length elements ≤ n → (first_held (drop n (held text (forest_of elements)))).members ≡ Ok []
+unfolding held
 members_absent text zero [] absent = refl
 members_absent text (suc n) [] absent = refl
 members_absent text zero (element ∷ elements) absent = absurd (omega (arith, absent))
 members_absent text (suc n) (element ∷ elements) absent = members_absent text n elements (omega (arith, absent))
 
 -- else those of the element at the place
-pub members_present : (text : List ℕ) (n : ℕ) (elements : List Element) (default : Element) → n < length elements → first_members (drop n (members text (forest_of elements))) ≡ members_of text (tree_of (get_or elements n default))
-unfolding members
+pub members_present : (text : List ℕ) (n : ℕ) (elements : List Element) (default : Element) → n < length elements → (first_held (drop n (held text (forest_of elements)))).members ≡ (held_of text (tree_of (get_or elements n default))).members
+unfolding held
 members_present text zero [] default present = absurd (omega (arith, present))
 members_present text (suc n) [] default present = absurd (omega (arith, present))
 members_present text zero (element ∷ elements) default present = refl
 members_present text (suc n) (element ∷ elements) default present = members_present text n elements default (omega (arith, present))
 
-pub members_inside : (text : List ℕ) (tree : Tree) → members_by text (tree_inside tree) ≡ members_of text tree
-unfolding members_of items_of_list
+pub members_inside : (text : List ℕ) (tree : Tree) → members_by text (tree_inside tree) ≡ (held_of text tree).members
+unfolding held_of items_of_list
 members_inside text (leaf token) = refl
 members_inside text (nest left inner right) = refl
 
@@ -79,3 +83,31 @@ without_is text place elements front behind here is_front is_here is_behind =
     ∙ ap (λ l. l ++ (here ∷ behind)) (is_front ∙ insides_take text place elements)
     ∙ ap (λ h. take place (insides text (forest_of elements)) ++ (h ∷ behind)) is_here
     ∙ ap (λ l. take place (insides text (forest_of elements)) ++ (nothing_inside ∷ l)) (is_behind ∙ insides_drop text 1 (drop place elements) ∙ ap (drop 1) (insides_drop text place elements))
+
+-- the names that an element holds
+held_names_are : (text : List ℕ) (tree : Tree) → (held_of text tree).names ≡ names_inside text tree
+unfolding held_of names_inside
+held_names_are text (leaf token) = refl
+held_names_are text (nest left inner right) = refl
+
+-- those that the first element holds, where there is one
+pub first_names_are : (text : List ℕ) (elements : List Element) (element : Element) → Some element ≡ slice_get elements 0 → names_inside text (tree_of element) ≡ (first_held (held text (forest_of elements))).names
+unfolding held
+first_names_are text [] element is = cc
+first_names_are text (first ∷ others) element is =
+    let same : element ≡ first = cc in ap (λ e. names_inside text (tree_of e)) same ∙ sym (held_names_are text (tree_of first))
+
+pub no_first_names : (text : List ℕ) (elements : List Element) → None ≡ slice_get elements 0 → [] ≡ (first_held (held text (forest_of elements))).names
+unfolding held
+no_first_names text [] is = refl
+no_first_names text (first ∷ others) is = cc
+
+-- nothing stands inside the elements around the place
+pub blank_without : (text : List ℕ) (place : ℕ) (elements : List Element) → place < length elements → are_silent text (forest_of (take place elements)) ≡ true → are_silent text (forest_of (drop 1 (drop place elements))) ≡ true → IsBlankList (length elements) (without (Some place) (insides text (forest_of elements)))
+blank_without text place elements within before after =
+    let all = insides text (forest_of elements) in
+    let front : AreBlank (take place all) = subst AreBlank (insides_take text place elements) (silent_insides text (forest_of (take place elements)) before) in
+    let behind : AreBlank (drop 1 (drop place all)) = subst AreBlank (insides_drop text 1 (drop place elements) ∙ ap (drop 1) (insides_drop text place elements)) (silent_insides text (forest_of (drop 1 (drop place elements))) after) in (
+      blank_around (take place all) (drop 1 (drop place all)) front behind,
+      omega (arith, within, length_insides text elements, length-append (take place all) (nothing_inside ∷ drop 1 (drop place all)), length-take place all, length-drop place all, length-drop 1 (drop place all)),
+    )

@@ -20,16 +20,18 @@ use Rattle.decl_parser.specs.declared.place.Place.{Place}
 use Rattle.decl_parser.specs.declared.inside.Inside.{Inside}
 use Rattle.decl_parser.specs.declared.inside.BlockAt.{BlockAt}
 use Rattle.decl_parser.specs.declared.parts.Parts.{Parts}
+use Rattle.decl_parser.specs.Held.{Held, first_held}
 use Rattle.decl_parser.specs.Insides.{nothing_inside, first_inside}
 use Rattle.decl_parser.specs.Attributes.{span_from}
 use Rattle.decl_parser.specs.Found.{Found, found_from}
 use Rattle.decl_parser.specs.Parts.{parts, has_members}
 use Rattle.decl_parser.specs.Places.{has_place}
-use Rattle.decl_parser.specs.Cut.{MembersRead, after, all_ends, assembled, beginning, block_of, count_of, cut_from, first_members, head_of, item_at, items_in, kind_of, members_at, members_place, one_item, whole_item, without, placed, starter_of, start_of, use_fits, closed, ends, nothing_more, use_ends}
+use Rattle.decl_parser.specs.Cut.{after, all_ends, assembled, beginning, block_of, count_of, cut_from, head_of, item_at, items_in, kind_of, members_at, members_place, one_item, whole_item, without, placed, starter_of, start_of, use_fits, closed, ends, nothing_more, use_ends}
 use Rattle.decl_parser.specs.Nesting.{Between, UsesLie, AttrsLie, StandsBehind, ItemLies, BlockLies, ItemsLie, after_of}
 use Rattle.decl_parser.proofs.Outcomes.{OkHolds, ok_then, ok_if, ok_at}
 use Rattle.decl_parser.proofs.Ordered.{InOrder, Beside, mark_lies, bounds, earlier, lies_take, lies_drop, lies_closely, lies_behind, lies_past, past_semicolon, has_at, beside_none, beside_take, beside_drop, end_grows}
 use Rattle.decl_parser.proofs.FoundInOrder.{InsideLies, FoundLies, found_lies}
+use Rattle.decl_parser.proofs.HeldInOrder.{HeldLies, first_held_lies}
 use Rattle.decl_parser.proofs.PartsInOrder.{PartsFit, parts_lie}
 use Rattle.decl_parser.proofs.BlocksInOrder.{BlockBetween, BlockFits, NotMembers, TypeBlock, parts_fit}
 use Rattle.decl_parser.proofs.Accepting.{then_ok}
@@ -40,14 +42,6 @@ use Rattle.element_marks.proofs.Starting.{head_within, known_drop}
 use Rattle.decl_parser.proofs.Wider.{between_wider, attrs_wider}
 use Rattle.decl_parser.proofs.AttributesBefore.{NoModifiers, early}
 use Rattle.decl_parser.proofs.UsesBefore.{AnglesEnd, AreLast, angles_take, uses_end}
-
--- members lie between the braces of their group
-abbrev pub MembersLie : ℕ → MembersRead → ℕ → Type 0
-MembersLie start members end = OkHolds (λ items. ItemsLie (start + 1) (items_from items) (end - 1)) members
-
-first_members_lie : (braces : Mark) (others : List Mark) (members : List MembersRead) (inner : List ItemSeen) → Beside MembersLie (braces ∷ others) members → first_members members ≡ Ok inner → ItemsLie (braces.start + 1) (items_from inner) (braces.end - 1)
-first_members_lie braces others [] inner holds is = let same : [] ≡ inner = cc in subst (λ l. ItemsLie (braces.start + 1) (items_from l) (braces.end - 1)) same tt
-first_members_lie braces others (members ∷ more) inner holds is = ok_at (λ items. ItemsLie (braces.start + 1) (items_from items) (braces.end - 1)) members inner is holds.0
 
 not_behind : (of_shape : BlockShape) (from to : ℕ) (uses : List MacroUse) → NotMembers of_shape → StandsBehind of_shape from uses to
 not_behind shape.Members from to uses not_ = absurd not_
@@ -68,20 +62,20 @@ abbrev UsesEnd : Bool → ℕ → List MacroUse → List Mark → Parts → Type
 UsesEnd true from uses marks parts = (fits : TypeBlock marks parts) → UsesLie from uses fits.braces.start
 UsesEnd false from uses marks parts = Unit {0}
 
-block_lies : (has : Bool) (whole : Span) (low : ℕ) (attrs : List Attr) (uses : List MacroUse) (head : ℕ) (own : List Mark) (parts : Parts) (members : List MembersRead) (inner : List ItemSeen) → whole.start ≤ low → AttrsLie whole.start attrs low → InOrder low (drop head own) whole.end → Beside MembersLie own members → BlockFits has low whole.end (drop head own) parts
-    → UsesEnd has whole.start uses (drop head own) parts → members_at (if has then Some (head + before is_braces (drop head own)) else None) members ≡ Ok inner → BlockLies whole attrs uses (block_of parts.block inner)
-block_lies false whole low attrs uses head own parts members inner less lie lies holds fits ends found = let same : [] ≡ inner = cc in plain_block whole low attrs uses parts.block inner same less lie fits
-block_lies true whole low attrs uses head own parts members inner less lie lies holds fits ends found =
+block_lies : (has : Bool) (whole : Span) (low : ℕ) (attrs : List Attr) (uses : List MacroUse) (head : ℕ) (own : List Mark) (parts : Parts) (held : List Held) (inner : List ItemSeen) → whole.start ≤ low → AttrsLie whole.start attrs low → InOrder low (drop head own) whole.end → Beside HeldLies own held → BlockFits has low whole.end (drop head own) parts
+    → UsesEnd has whole.start uses (drop head own) parts → members_at (if has then Some (head + before is_braces (drop head own)) else None) held ≡ Ok inner → BlockLies whole attrs uses (block_of parts.block inner)
+block_lies false whole low attrs uses head own parts held inner less lie lies holds fits ends found = let same : [] ≡ inner = cc in plain_block whole low attrs uses parts.block inner same less lie fits
+block_lies true whole low attrs uses head own parts held inner less lie lies holds fits ends found =
     let behind = before is_braces (drop head own) in
     let place = head + behind in
     let here : drop place own ≡ fits.braces ∷ fits.others = sym (drop-drop behind head own) ∙ fits.here in
     let first : InOrder low (fits.braces ∷ fits.others) whole.end = subst (λ l. InOrder low l whole.end) fits.here (lies_drop behind low whole.end (drop head own) lies) in
-    let beside : Beside MembersLie (fits.braces ∷ fits.others) (drop place members) = subst (λ l. Beside MembersLie l (drop place members)) here (beside_drop MembersLie place own members holds) in
+    let beside : Beside HeldLies (fits.braces ∷ fits.others) (drop place held) = subst (λ l. Beside HeldLies l (drop place held)) here (beside_drop HeldLies place own held holds) in
     let braced : BlockLies whole attrs uses (block_of (Some (record { span = record { start = fits.braces.start; end = fits.braces.end }; shape = shape.Members })) inner) = (
       between_wider whole.start low whole.end whole.end (span_of fits.braces) less (omega arith) (mark_lies low whole.end fits.braces fits.others first),
       attrs_wider whole.start whole.start low fits.braces.start attrs (omega arith) first.0 lie,
       ends fits,
-      first_members_lie fits.braces fits.others (drop place members) inner beside found,
+      ok_at (λ items. ItemsLie (fits.braces.start + 1) (items_from items) (fits.braces.end - 1)) (first_held (drop place held)).members inner found (first_held_lies fits.braces fits.others (drop place held) beside).members,
     ) in
     subst (λ b. BlockLies whole attrs uses (block_of b inner)) (sym fits.block) braced
 
@@ -114,9 +108,9 @@ known_block start = let same : (start == start) ≡ true = true_from_ne_false (s
 -- what stands inside the members' braces is left out
 replaced : (place : ℕ) (marks : List Mark) (insides : List Inside) → Beside InsideLies marks insides → Beside InsideLies marks (take place insides ++ (nothing_inside ∷ drop 1 (drop place insides)))
 replaced place [] insides holds = tt
-replaced zero (mark ∷ marks) [] holds = (record { names = tt; uses = tt; locals = tt }, beside_none InsideLies marks)
-replaced zero (mark ∷ marks) (inside ∷ insides) holds = (record { names = tt; uses = tt; locals = tt }, holds.1)
-replaced (suc place) (mark ∷ marks) [] holds = (record { names = tt; uses = tt; locals = tt }, beside_none InsideLies marks)
+replaced zero (mark ∷ marks) [] holds = (record { uses = tt; locals = tt }, beside_none InsideLies marks)
+replaced zero (mark ∷ marks) (inside ∷ insides) holds = (record { uses = tt; locals = tt }, holds.1)
+replaced (suc place) (mark ∷ marks) [] holds = (record { uses = tt; locals = tt }, beside_none InsideLies marks)
 replaced (suc place) (mark ∷ marks) (inside ∷ insides) holds = (holds.0, replaced place marks insides holds.1)
 
 beside_without : (place : Option ℕ) (marks : List Mark) (insides : List Inside) → Beside InsideLies marks insides → Beside InsideLies marks (without place insides)
@@ -208,11 +202,11 @@ abbrev OwnEarly : List Mark → ℕ → Type 0
 OwnEarly list at =
     (blocks : List ℕ) (insides : List Inside) (from to : ℕ) → InOrder from (drop at list) to → Beside InsideLies (drop at list) insides → AttrsLie from (found_from blocks (at + head_of (drop at list)) list at 0 (length list - at) insides).attrs (end_of from (take (head_of (drop at list)) (drop at list)))
 
-module _ (place : Place) (list : List Mark) (at : ℕ) (next : List Mark) (insides : List Inside) (members : List MembersRead) (from to : ℕ) where
-  pub item_fits : AnglesEnd list → OwnEarly list at → InOrder from (drop at list) (end_of from (drop at list)) → InOrder (end_of from (drop at list)) next to → Beside InsideLies (drop at list) insides → Beside MembersLie (drop at list) members
-      → OkHolds (ItemFits from to (drop at list) next) (item_at place list at next insides members)
+module _ (place : Place) (list : List Mark) (at : ℕ) (next : List Mark) (insides : List Inside) (held : List Held) (from to : ℕ) where
+  pub item_fits : AnglesEnd list → OwnEarly list at → InOrder from (drop at list) (end_of from (drop at list)) → InOrder (end_of from (drop at list)) next to → Beside InsideLies (drop at list) insides → Beside HeldLies (drop at list) held
+      → OkHolds (ItemFits from to (drop at list) next) (item_at place list at next insides held)
   unfolding item_at whole_item
-  item_fits angled own_early lies behind inside_holds members_hold =
+  item_fits angled own_early lies behind inside_holds held_holds =
       let own = drop at list in
       let head = head_of own in
       let P : ItemSeen → Type 0 = ItemFits from to (drop at list) next in
@@ -223,16 +217,16 @@ module _ (place : Place) (list : List Mark) (at : ℕ) (next : List Mark) (insid
       let whole = span_from own in
       let closely = own_lies from (end_of from own) own some lies in
       let low = end_of whole.start (take head own) in
-      ok_then P (parts (kind_of starter) starter (drop head own) (drop head outside)) _ (λ read is.
-      ok_then P (members_at braces members) _ (λ inner found.
+      ok_then P (parts (kind_of starter) starter (drop head own) (drop head outside) (drop head held)) _ (λ read is.
+      ok_then P (members_at braces held) _ (λ inner found.
       ok_then P (all_ends read.body starter list at) _ (λ ended ends_.
       let shut = then_ok (closed read.body (drop head own)) (λ closes. and_then (use_ends starter list at) (λ alone. ends own)) ended ends_ in
       assembled_fits from to own next (kind_of starter) read (found_from read.blocks (at + head) list at 0 (length list - at) outside) inner some lies behind
-      (ok_at (PartsFit whole.start whole.end) (parts (kind_of starter) starter (drop head own) (drop head outside)) read is (parts_lie whole.start whole.end (kind_of starter) starter (drop head own) (drop head outside) (ok_at (λ one. Between whole.start whole.end (span_of one)) (beginning place own) starter begun (starter_lies place whole.start whole.end own closely)) (lies_drop head whole.start whole.end own closely) (beside_drop InsideLies head own outside (beside_without braces own insides inside_holds))))
+      (ok_at (PartsFit whole.start whole.end) (parts (kind_of starter) starter (drop head own) (drop head outside) (drop head held)) read is (parts_lie whole.start whole.end (kind_of starter) starter (drop head own) (drop head outside) (drop head held) (ok_at (λ one. Between whole.start whole.end (span_of one)) (beginning place own) starter begun (starter_lies place whole.start whole.end own closely)) (lies_drop head whole.start whole.end own closely) (beside_drop HeldLies head own held held_holds)))
       (found_lies read.blocks (at + head) list whole.end at 0 (length list - at) outside whole.start (omega (arith, some, length-drop at list)) (let here : at ≡ at + 0 = omega arith in subst (λ n. InOrder whole.start (drop n list) whole.end) here closely) (beside_without braces own insides inside_holds))
-      (block_lies (has_members (kind_of starter)) whole low (found_from read.blocks (at + head) list at 0 (length list - at) outside).attrs (found_from read.blocks (at + head) list at 0 (length list - at) outside).uses head own read members inner
-      (end_grows whole.start whole.end (take head own) (lies_take head whole.start whole.end own closely)) (own_early read.blocks outside whole.start whole.end closely (beside_without braces own insides inside_holds)) (lies_behind head whole.start whole.end own closely) members_hold
-      (ok_at (BlockFits (has_members (kind_of starter)) low whole.end (drop head own)) (parts (kind_of starter) starter (drop head own) (drop head outside)) read is (parts_fit low whole.end (kind_of starter) starter (drop head own) (drop head outside) (lies_behind head whole.start whole.end own closely)))
+      (block_lies (has_members (kind_of starter)) whole low (found_from read.blocks (at + head) list at 0 (length list - at) outside).attrs (found_from read.blocks (at + head) list at 0 (length list - at) outside).uses head own read held inner
+      (end_grows whole.start whole.end (take head own) (lies_take head whole.start whole.end own closely)) (own_early read.blocks outside whole.start whole.end closely (beside_without braces own insides inside_holds)) (lies_behind head whole.start whole.end own closely) held_holds
+      (ok_at (BlockFits (has_members (kind_of starter)) low whole.end (drop head own)) (parts (kind_of starter) starter (drop head own) (drop head outside) (drop head held)) read is (parts_fit low whole.end (kind_of starter) starter (drop head own) (drop head outside) (drop head held) (lies_behind head whole.start whole.end own closely)))
       (ends_by (has_members (kind_of starter)) list at head whole read insides shut.0 shut.1 some angled closely inside_holds)
       found)))))
 
@@ -268,11 +262,11 @@ own_early marks at plain known some blocks insides from to lies holds =
     early marks at h end some (omega arith) plain blocks insides from to long (head_known rest (known_drop at marks known) some) lies holds in
     subst (λ n. AttrsLie from (found_from blocks (at + n) list at 0 (length list - at) insides).attrs (end_of from (take n (drop at list)))) (sym same) ends
 
-module _ (place : Place) (marks : List Mark) (insides : List Inside) (members : List MembersRead) (inside_holds : Beside InsideLies marks insides) (members_hold : Beside MembersLie marks members) (angled : AnglesEnd marks) (plain : NoModifiers marks) (known : HeadsKnown marks) (to : ℕ) where
+module _ (place : Place) (marks : List Mark) (insides : List Inside) (held : List Held) (inside_holds : Beside InsideLies marks insides) (held_holds : Beside HeldLies marks held) (angled : AnglesEnd marks) (plain : NoModifiers marks) (known : HeadsKnown marks) (to : ℕ) where
   abbrev OneFits : ℕ → List Mark → ItemSeen → Type 0
   OneFits from rest seen = ItemFits from to (take (count_of rest) rest) (drop (count_of rest) rest) seen
 
-  one_fits : (from at : ℕ) → 0 < head_of (drop at marks) → InOrder from (drop at marks) to → OkHolds (OneFits from (drop at marks)) (one_item place marks insides members at)
+  one_fits : (from at : ℕ) → 0 < head_of (drop at marks) → InOrder from (drop at marks) to → OkHolds (OneFits from (drop at marks)) (one_item place marks insides held at)
   one_fits from at some lies =
       let rest = drop at marks in
       let count = count_of rest in
@@ -280,11 +274,11 @@ module _ (place : Place) (marks : List Mark) (insides : List Inside) (members : 
       let own : drop at list ≡ take count rest = drop-take at count marks in
       let next : drop (at + count) marks ≡ drop count rest = sym (drop-drop count at marks) in
       let own_insides : Beside InsideLies (drop at list) (take count (drop at insides)) = subst (λ l. Beside InsideLies l (take count (drop at insides))) (sym own) (beside_take InsideLies count rest (drop at insides) (beside_drop InsideLies at marks insides inside_holds)) in
-      let own_members : Beside MembersLie (drop at list) (take count (drop at members)) = subst (λ l. Beside MembersLie l (take count (drop at members))) (sym own) (beside_take MembersLie count rest (drop at members) (beside_drop MembersLie at marks members members_hold)) in
+      let own_held : Beside HeldLies (drop at list) (take count (drop at held)) = subst (λ l. Beside HeldLies l (take count (drop at held))) (sym own) (beside_take HeldLies count rest (drop at held) (beside_drop HeldLies at marks held held_holds)) in
       let closely : InOrder from (drop at list) (end_of from (drop at list)) = subst (λ l. InOrder from l (end_of from l)) (sym own) (lies_closely from to (take count rest) (lies_take count from to rest lies)) in
       let behind : InOrder (end_of from (drop at list)) (drop (at + count) marks) to = subst (λ l. InOrder (end_of from (drop at list)) l to) (sym next) (subst (λ l. InOrder (end_of from l) (drop count rest) to) (sym own) (lies_behind count from to rest lies)) in
-      let fits = item_fits place list at (drop (at + count) marks) (take count (drop at insides)) (take count (drop at members)) from to (angles_take (at + count) marks angled) (own_early marks at plain known some) closely behind own_insides own_members in
-      subst (λ l. OkHolds (ItemFits from to l (drop count rest)) (one_item place marks insides members at)) own (subst (λ l. OkHolds (ItemFits from to (drop at list) l) (one_item place marks insides members at)) next fits)
+      let fits = item_fits place list at (drop (at + count) marks) (take count (drop at insides)) (take count (drop at held)) from to (angles_take (at + count) marks angled) (own_early marks at plain known some) closely behind own_insides own_held in
+      subst (λ l. OkHolds (ItemFits from to l (drop count rest)) (one_item place marks insides held at)) own (subst (λ l. OkHolds (ItemFits from to (drop at list) l) (one_item place marks insides held at)) next fits)
 
   abbrev AllLie : ℕ → List ItemSeen → Type 0
   AllLie from items = ItemsLie from (items_from items) to
@@ -295,7 +289,7 @@ module _ (place : Place) (marks : List Mark) (insides : List Inside) (members : 
       let first : InOrder from (if is_semicolon mark then rest else mark ∷ rest) to = subst (λ l. InOrder from (past_semicolon l) to) (ap (λ n. drop n marks) at_once ∙ here) lies in
       subst (λ b. InOrder from (if b then rest else mark ∷ rest) to) is first
 
-  cut_lies : (at inside left from : ℕ) → at + left ≤ length marks → InOrder from (past_semicolon (drop (at + inside) marks)) to → OkHolds (AllLie from) (cut_from place marks insides members at inside left)
+  cut_lies : (at inside left from : ℕ) → at + left ≤ length marks → InOrder from (past_semicolon (drop (at + inside) marks)) to → OkHolds (AllLie from) (cut_from place marks insides held at inside left)
   cut_lies at inside zero from within lies = tt
   cut_lies at (suc inside) (suc left) from within lies =
       let same : at + suc inside ≡ suc at + inside = omega arith in
@@ -312,16 +306,16 @@ module _ (place : Place) (marks : List Mark) (insides : List Inside) (members : 
       (λ is.
       let first : InOrder from (drop at marks) to = subst (λ l. InOrder from l to) (sym here.here) (first_passed from at false here.mark here.marks (ap (first_is is_semicolon) (sym here.here) ∙ is) here.here lies) in
       ok_if (AllLie from) (head_of (drop at marks) == 0) _ _ (λ no_head. tt) (λ some_head.
-      ok_then (AllLie from) (one_item place marks insides members at) _ (λ one read.
-      let fits : OneFits from (drop at marks) one = ok_at (OneFits from (drop at marks)) (one_item place marks insides members at) one read (one_fits from at (not_zero (head_of (drop at marks)) some_head) first) in
+      ok_then (AllLie from) (one_item place marks insides held at) _ (λ one read.
+      let fits : OneFits from (drop at marks) one = ok_at (OneFits from (drop at marks)) (one_item place marks insides held at) one read (one_fits from at (not_zero (head_of (drop at marks)) some_head) first) in
       let end = end_of from (take count (drop at marks)) in
       let passed = lies_past end to (drop count (drop at marks)) (lies_behind count from to (drop at marks) first) in
       let there : at + count ≡ suc at + (count - 1) = omega (arith, not_zero (head_of (drop at marks)) some_head) in
       let behind : InOrder (after_of one) (past_semicolon (drop (suc at + (count - 1)) marks)) to =
       subst (λ l. InOrder (after_of one) (past_semicolon l) to) (drop-drop count at marks ∙ ap (λ n. drop n marks) there) (subst (λ n. InOrder n (past_semicolon (drop count (drop at marks))) to) (sym fits.1) passed.2) in
-      ok_then (AllLie from) (cut_from place marks insides members (suc at) (count - 1) left) _ (λ others are.
-      (fits.0, ok_at (AllLie (after_of one)) (cut_from place marks insides members (suc at) (count - 1) left) others are (cut_lies (suc at) (count - 1) left (after_of one) (omega (arith, within)) behind))))))
+      ok_then (AllLie from) (cut_from place marks insides held (suc at) (count - 1) left) _ (λ others are.
+      (fits.0, ok_at (AllLie (after_of one)) (cut_from place marks insides held (suc at) (count - 1) left) others are (cut_lies (suc at) (count - 1) left (after_of one) (omega (arith, within)) behind))))))
 
-  pub items_lie : (from : ℕ) → InOrder from marks to → OkHolds (λ items. ItemsLie from (items_from items) to) (items_in place marks insides members)
+  pub items_lie : (from : ℕ) → InOrder from marks to → OkHolds (λ items. ItemsLie from (items_from items) to) (items_in place marks insides held)
   unfolding items_in
   items_lie from lies = let passed = lies_past from to marks lies in cut_lies 0 0 (length marks) from (omega arith) (earlier from (after from marks) to (past_semicolon marks) passed.0 passed.2)

@@ -1,8 +1,8 @@
 -- Declarations and macro uses at every depth, and in the whole text.
-use Rattle.std.proofs.Common.{Bool, subst, arith, ℕ, ◌+◌, ◌-◌, List, length, true, false, ◌∷◌, ◌≤◌, Result, Ok, Err, if◌then◌else◌, [], ◌≡◌}
+use Rattle.std.proofs.Common.{subst, sym, arith, ℕ, ◌+◌, ◌-◌, List, length, true, false, ◌∷◌, ◌≤◌, Result, Ok, Err, if◌then◌else◌, [], ◌≡◌}
 use Rattle.swift_base.specs.declared.place.Span.{Span}
 use Rattle.element_marks.specs.declared.mark.Mark.{Mark}
-use Rattle.element_marks.specs.Sorts.{is_parentheses, is_braces}
+use Rattle.element_marks.specs.Sorts.{is_braces}
 use Rattle.element_marks.specs.Spans.{between}
 use Rattle.element_marks.specs.Heads.{first_is, in_list}
 use Rattle.element_marks.specs.Marks.{mark_between, mark_of}
@@ -18,42 +18,63 @@ use Rattle.element_marks.specs.Levels.{own_marks, level}
 use Rattle.element_marks.specs.Accessors.{accessors_from}
 use Rattle.decl_parser.specs.declared.place.Place.{Place}
 use Rattle.decl_parser.specs.declared.place.Place.TheVariants as place
+use Rattle.decl_parser.specs.Bindings.{names_here, names_inside, names_of}
 use Rattle.decl_parser.specs.Found.{found_in}
 use Rattle.decl_parser.specs.declared.inside.Inside.{Inside}
-use Rattle.decl_parser.specs.Levels.{names_if, read_inside, inside_of, insides, members_of, members, items_of_list}
+use Rattle.decl_parser.specs.Levels.{read_inside, inside_of, insides, held_of, held, items_of_list}
 use Rattle.decl_parser.specs.Fragments.{all_of, by_shape, attributes_from, accessor_marks, accessors_inside, first_between, not_an_accessor, one_group, expression}
 use Rattle.decl_parser.specs.Nesting.{PartsLie, AttrsLie, ItemsLie, OutlineLies}
 use Rattle.decl_parser.specs.Laws.{SpansInOrder}
 use Rattle.decl_parser.proofs.Outcomes.{OkHolds, ok_then, ok_at}
+use Rattle.decl_parser.proofs.Wider.{parts_join, parts_wider}
 use Rattle.decl_parser.proofs.Accepting.{parsed, tokens_read_tile}
-use Rattle.decl_parser.proofs.Ordered.{InOrder, Beside, beside_level, beside_marks, earlier, later, ForestInOrder, TreeInOrder, tree_start, tree_end, level_in_order, tiled_in_order, forest_bounds}
+use Rattle.decl_parser.proofs.Ordered.{InOrder, Beside, beside_level, beside_marks, bounds, earlier, later, mark_end, own_in_order, ForestInOrder, TreeInOrder, tree_start, tree_end, level_in_order, tiled_in_order, forest_bounds}
 use Rattle.decl_parser.proofs.FoundInOrder.{InsideLies, FoundLies, found_in_lies}
-use Rattle.decl_parser.proofs.PartsInOrder.{names_inside_lie}
+use Rattle.decl_parser.proofs.HeldInOrder.{HeldLies}
+use Rattle.decl_parser.proofs.PartsInOrder.{names_here_lie}
 use Rattle.decl_parser.proofs.FragmentsInOrder.{Spans, spans_from, all_spans, attributes_lie, accessors_lie}
 use Rattle.decl_parser.proofs.AttributesBefore.{level_modifiers, level_heads}
 use Rattle.decl_parser.proofs.UsesBefore.{level_angles}
-use Rattle.decl_parser.proofs.ItemsInOrder.{MembersLie, items_lie}
+use Rattle.decl_parser.proofs.ItemsInOrder.{items_lie}
 
 -- the elements of a group lie between its brackets
 inner_in_order : (text : List ℕ) (left right : Token) (inner : Forest) (from : ℕ) → TreeInOrder text from (nest left inner right) → InOrder (left.start + 1) (level text inner) (right.end - 1)
 inner_in_order text left right inner from lies =
     earlier (left.start + 1) left.end (right.end - 1) (level text inner) (omega (arith, lies.1.some)) (later left.end right.start (right.end - 1) (level text inner) (omega (arith, lies.3.some)) (level_in_order text left.end right.start inner lies.2))
 
-names_if_lie : (parentheses : Bool) (to : ℕ) (marks : List Mark) (insides : List Inside) (from : ℕ) → InOrder from marks to → Beside InsideLies marks insides → PartsLie from (names_if parentheses marks insides) to
-names_if_lie true to marks insides from lies holds = names_inside_lie to marks insides from lies holds
-names_if_lie false to marks insides from lies holds = tt
+-- names lie between the brackets of their element
+abbrev NamesBetween : ℕ → List Span → ℕ → Type 0
+NamesBetween start names end = PartsLie (start + 1) names (end - 1)
+
+mutual
+  unfolding names_inside names_of
+
+  names_between : (text : List ℕ) (from : ℕ) (tree : Tree) → TreeInOrder text from tree → NamesBetween (tree_start tree) (names_inside text tree) (tree_end tree)
+  names_between text from (leaf token) lies = tt
+  names_between text from (nest left inner right) lies =
+      parts_wider (left.start + 1) left.end right.start (right.end - 1) (names_of text inner) (omega (arith, lies.1.some)) (omega (arith, lies.3.some)) (names_lie text left.end right.start inner lies.2)
+
+  names_lie : (text : List ℕ) (from to : ℕ) (forest : Forest) → ForestInOrder text from forest to → PartsLie from (names_of text forest) to
+  names_lie text from to none lies = tt
+  names_lie text from to (cons tree forest) lies =
+      let mark = mark_of text tree in
+      let order = own_in_order text from to (cons tree forest) lies in
+      let inner = names_inside text tree in
+      parts_join from mark.end to (names_here mark (own_marks text forest) inner) (names_of text forest) (omega (arith, order.0, order.1.some)) (bounds mark.end to (own_marks text forest) order.2)
+      (names_here_lie from to mark (own_marks text forest) (own_marks text forest) inner order (beside_marks NamesBetween text tree inner (names_between text from tree lies.0)))
+      (subst (λ n. PartsLie n (names_of text forest) to) (sym (mark_end text tree)) (names_lie text (tree_end tree) to forest lies.1))
 
 mutual
   unfolding inside_of insides read_inside
 
   inside_lies : (text : List ℕ) (from : ℕ) (tree : Tree) → TreeInOrder text from tree → InsideLies (tree_start tree) (inside_of text tree) (tree_end tree)
-  inside_lies text from (leaf token) lies = record { names = tt; uses = tt; locals = tt }
+  inside_lies text from (leaf token) lies = record { uses = tt; locals = tt }
   inside_lies text from (nest left inner right) lies =
       let marks = level text inner in
       let order = inner_in_order text left right inner from lies in
       let holds = beside_level InsideLies text inner (insides text inner) (insides_lie text left.end right.start inner lies.2) in
       let found = found_in_lies (left.start + 1) (right.end - 1) marks (insides text inner) order holds in
-      record { names = names_if_lie (is_parentheses (mark_of text (nest left inner right))) (right.end - 1) marks (insides text inner) (left.start + 1) order holds; uses = found.uses; locals = found.locals }
+      record { uses = found.uses; locals = found.locals }
 
   insides_lie : (text : List ℕ) (from to : ℕ) (forest : Forest) → ForestInOrder text from forest to → Beside InsideLies (own_marks text forest) (insides text forest)
   insides_lie text from to none lies = tt
@@ -64,23 +85,25 @@ level_insides : (text : List ℕ) (from to : ℕ) (forest : Forest) → ForestIn
 level_insides text from to forest lies = beside_level InsideLies text forest (insides text forest) (insides_lie text from to forest lies)
 
 mutual
-  unfolding members_of members
+  unfolding held_of held names_inside
 
-  members_lie : (text : List ℕ) (from : ℕ) (tree : Tree) → TreeInOrder text from tree → MembersLie (tree_start tree) (members_of text tree) (tree_end tree)
-  members_lie text from (leaf token) lies = tt
-  members_lie text from (nest left inner right) lies =
-      items_lie place.Members (level text inner) (insides text inner) (members text inner) (level_insides text left.end right.start inner lies.2) (beside_level MembersLie text inner (members text inner) (all_members_lie text left.end right.start inner lies.2)) (level_angles text inner) (level_modifiers text inner) (level_heads text inner)
-      (right.end - 1) (left.start + 1) (inner_in_order text left right inner from lies)
+  held_lies : (text : List ℕ) (from : ℕ) (tree : Tree) → TreeInOrder text from tree → HeldLies (tree_start tree) (held_of text tree) (tree_end tree)
+  held_lies text from (leaf token) lies = record { members = tt; names = tt }
+  held_lies text from (nest left inner right) lies = record {
+    members = items_lie place.Members (level text inner) (insides text inner) (held text inner) (level_insides text left.end right.start inner lies.2) (beside_level HeldLies text inner (held text inner) (all_held_lies text left.end right.start inner lies.2)) (level_angles text inner) (level_modifiers text inner) (level_heads text inner)
+        (right.end - 1) (left.start + 1) (inner_in_order text left right inner from lies);
+    names = names_between text from (nest left inner right) lies;
+  }
 
-  all_members_lie : (text : List ℕ) (from to : ℕ) (forest : Forest) → ForestInOrder text from forest to → Beside MembersLie (own_marks text forest) (members text forest)
-  all_members_lie text from to none lies = tt
-  all_members_lie text from to (cons tree forest) lies =
-      (beside_marks MembersLie text tree (members_of text tree) (members_lie text from tree lies.0), all_members_lie text (tree_end tree) to forest lies.1)
+  all_held_lies : (text : List ℕ) (from to : ℕ) (forest : Forest) → ForestInOrder text from forest to → Beside HeldLies (own_marks text forest) (held text forest)
+  all_held_lies text from to none lies = tt
+  all_held_lies text from to (cons tree forest) lies =
+      (beside_marks HeldLies text tree (held_of text tree) (held_lies text from tree lies.0), all_held_lies text (tree_end tree) to forest lies.1)
 
 list_lies : (of_place : Place) (text : List ℕ) (from to : ℕ) (forest : Forest) → ForestInOrder text from forest to → OkHolds (λ items. ItemsLie from (items_from items) to) (items_of_list of_place text forest)
 unfolding items_of_list
 list_lies of_place text from to forest lies =
-    items_lie of_place (level text forest) (insides text forest) (members text forest) (level_insides text from to forest lies) (beside_level MembersLie text forest (members text forest) (all_members_lie text from to forest lies)) (level_angles text forest) (level_modifiers text forest) (level_heads text forest) to from (level_in_order text from to forest lies)
+    items_lie of_place (level text forest) (insides text forest) (held text forest) (level_insides text from to forest lies) (beside_level HeldLies text forest (held text forest) (all_held_lies text from to forest lies)) (level_angles text forest) (level_modifiers text forest) (level_heads text forest) to from (level_in_order text from to forest lies)
 
 found_in_list : (text : List ℕ) (from to : ℕ) (forest : Forest) → ForestInOrder text from forest to → FoundLies from to (found_in (level text forest) (insides text forest))
 found_in_list text from to forest lies = found_in_lies from to (level text forest) (insides text forest) (level_in_order text from to forest lies) (level_insides text from to forest lies)

@@ -220,7 +220,7 @@ unfolding mark_between
 mark_start text (leaf token) = refl
 mark_start text (nest left inner right) = refl
 
-mark_end : (text : List ℕ) (tree : Tree) → (mark_of text tree).end ≡ tree_end tree
+pub mark_end : (text : List ℕ) (tree : Tree) → (mark_of text tree).end ≡ tree_end tree
 unfolding mark_between
 mark_end text (leaf token) = refl
 mark_end text (nest left inner right) = refl
@@ -229,7 +229,7 @@ mark_fits : (text : List ℕ) (from : ℕ) (tree : Tree) → TreeInOrder text fr
 mark_fits text from (leaf token) lies = element_fits text token token.end lies.1 (omega arith)
 mark_fits text from (nest left inner right) lies = element_fits text left right.end lies.1 (omega (arith, forest_bounds text left.end right.start inner lies.2, lies.3.some))
 
-own_in_order : (text : List ℕ) (from to : ℕ) (forest : Forest) → ForestInOrder text from forest to → InOrder from (own_marks text forest) to
+pub own_in_order : (text : List ℕ) (from to : ℕ) (forest : Forest) → ForestInOrder text from forest to → InOrder from (own_marks text forest) to
 own_in_order text from to none lies = lies
 own_in_order text from to (cons tree forest) lies =
     let first = tree_bounds text from tree lies.0 in

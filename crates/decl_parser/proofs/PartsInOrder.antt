@@ -16,15 +16,15 @@ use Rattle.decl_parser.specs.declared.inside.Inside.{Inside}
 use Rattle.decl_parser.specs.declared.parts.Parts.{Parts}
 use Rattle.decl_parser.specs.declared.bindings.Bound.{Bound}
 use Rattle.decl_parser.specs.declared.bindings.Tail.{Tail}
-use Rattle.decl_parser.specs.Insides.{first_inside}
-use Rattle.decl_parser.specs.Bindings.{names_here, names_inside, pattern_names, has_observers, with_initializer, blocked, without_initializer, by_equals, tail_of, binding_of, bindings_from, type_before}
+use Rattle.decl_parser.specs.Held.{Held}
+use Rattle.decl_parser.specs.Bindings.{names_here, pattern_names, has_observers, with_initializer, blocked, without_initializer, by_equals, tail_of, binding_of, bindings_from, type_before}
 use Rattle.decl_parser.specs.Parts.{names_only, operator_name, with_members, of_type, extending, of_extension, with_body, code, of_function, of_case, first_name, function_name, case_names, comma_start, all_names, named, of_variable, parts}
 use Rattle.decl_parser.specs.Nesting.{Between, MayLie, PartsLie, SidesLie, BindingLies, BindingsLie}
 use Rattle.decl_parser.proofs.ElementBytes.{both_left}
 use Rattle.decl_parser.proofs.Wider.{between_wider, may_wider, parts_wider, parts_join, parts_if}
 use Rattle.decl_parser.proofs.Outcomes.{OkHolds, ok_then, ok_if, ok_at}
 use Rattle.decl_parser.proofs.Ordered.{InOrder, Beside, bounds, earlier, mark_lies, name_lies, whole_lies, end_grows, lies_take, lies_drop, lies_behind, lies_closely, beside_drop}
-use Rattle.decl_parser.proofs.FoundInOrder.{InsideLies, first_lies}
+use Rattle.decl_parser.proofs.HeldInOrder.{HeldLies, held_names}
 
 -- an operator's name
 operator_lies : (from to : ℕ) (name : Mark) (marks : List Mark) → InOrder from (name ∷ marks) to → Between from to (operator_name name marks)
@@ -97,21 +97,15 @@ clause_lies from to (mark ∷ marks) lies =
 inherited_lies : (from to : ℕ) (marks : List Mark) → InOrder from marks to → PartsLie from (inherited marks) to
 inherited_lies from to marks lies = let n = length_before stop.Clause 0 0 marks in clause_lies from to (drop n marks) (lies_drop n from to marks lies)
 
--- the names of a pattern
-inside_names : (from : ℕ) (mark : Mark) (marks : List Mark) (insides : List Inside) → from ≤ mark.start → Beside InsideLies (mark ∷ marks) insides → PartsLie from (first_inside insides).names mark.end
-inside_names from mark marks insides less holds = parts_wider from (mark.start + 1) (mark.end - 1) mark.end (first_inside insides).names (omega arith) (omega arith) (first_lies mark marks insides holds).names
+-- the names of a pattern, of which each element has those that it holds
+pub names_here_lie : (from to : ℕ) (mark : Mark) (marks others : List Mark) (inner : List Span) → InOrder from (mark ∷ marks) to → PartsLie (mark.start + 1) inner (mark.end - 1) → PartsLie from (names_here mark others inner) mark.end
+names_here_lie from to mark marks others inner lies holds =
+    parts_if from mark.end (is_parentheses mark) _ _ (parts_wider from (mark.start + 1) (mark.end - 1) mark.end inner (omega (arith, lies.0)) (omega arith) holds)
+    (parts_if from mark.end (is_name mark && not (is_underscore mark.keyword) && not (first_is is_colon others)) _ _ (name_lies from to mark marks lies, tt) tt)
 
-pub names_inside_lie : (to : ℕ) (marks : List Mark) (insides : List Inside) (from : ℕ) → InOrder from marks to → Beside InsideLies marks insides → PartsLie from (names_inside marks insides) to
-names_inside_lie to [] insides from lies holds = tt
-names_inside_lie to (mark ∷ marks) insides from lies holds =
-    let here : PartsLie from (names_here mark marks insides) mark.end =
-    parts_if from mark.end (is_parentheses mark) _ _ (inside_names from mark marks insides lies.0 holds) (parts_if from mark.end (is_name mark && not (is_underscore mark.keyword) && not (first_is is_colon marks)) _ _ (name_lies from to mark marks lies, tt) tt) in
-    parts_join from mark.end to (names_here mark marks insides) (names_inside marks (drop 1 insides)) (omega (arith, lies.0, lies.1.some)) (bounds mark.end to marks lies.2) here
-    (names_inside_lie to marks (drop 1 insides) mark.end lies.2 (beside_drop InsideLies 1 (mark ∷ marks) insides holds))
-
-pattern_lies : (from to : ℕ) (mark : Mark) (marks others : List Mark) (insides : List Inside) → InOrder from (mark ∷ marks) to → Beside InsideLies (mark ∷ others) insides → PartsLie from (pattern_names mark insides) mark.end
-pattern_lies from to mark marks others insides lies holds =
-    parts_if from mark.end (is_parentheses mark) _ _ (inside_names from mark others insides lies.0 holds) (parts_if from mark.end (is_underscore mark.keyword) _ _ tt (name_lies from to mark marks lies, tt))
+pattern_lies : (from to : ℕ) (mark : Mark) (marks others : List Mark) (held : List Held) → InOrder from (mark ∷ marks) to → Beside HeldLies (mark ∷ others) held → PartsLie from (pattern_names mark held) mark.end
+pattern_lies from to mark marks others held lies holds =
+    parts_if from mark.end (is_parentheses mark) _ _ (held_names from mark others held lies.0 holds) (parts_if from mark.end (is_underscore mark.keyword) _ _ tt (name_lies from to mark marks lies, tt))
 
 -- what a binding has behind its pattern
 module _ (from to : ℕ) where
@@ -154,8 +148,8 @@ by_equals_lies from middle to marks insides (equals ∷ init) from_equals lies f
 abbrev BoundLies : ℕ → ℕ → Bound → Type 0
 BoundLies from end bound = BindingLies from bound.binding × (end ≡ bound.binding.end)
 
-bound_lies : (from to : ℕ) (mark : Mark) (marks others : List Mark) (insides : List Inside) → InOrder from (mark ∷ marks) to → Beside InsideLies (mark ∷ others) insides → OkHolds (BoundLies from (end_of mark.end marks)) (binding_of (mark ∷ marks) insides)
-bound_lies from to mark marks others insides lies holds =
+bound_lies : (from to : ℕ) (mark : Mark) (marks others : List Mark) (insides : List Inside) (held : List Held) → InOrder from (mark ∷ marks) to → Beside HeldLies (mark ∷ others) held → OkHolds (BoundLies from (end_of mark.end marks)) (binding_of (mark ∷ marks) insides held)
+bound_lies from to mark marks others insides held lies holds =
     let end = end_of mark.end marks in
     let P : Bound → Type 0 = BoundLies from end in
     let n = before is_equals marks in
@@ -166,7 +160,7 @@ bound_lies from to mark marks others insides lies holds =
     (λ is. ok_then P (tail_of marks (drop 1 insides)) _ (λ tail found. (
       record {
         some = omega (arith, lies.0, lies.1.some, grows);
-        names = parts_wider from from mark.end end (pattern_names mark insides) (omega arith) grows (pattern_lies from to mark marks others insides lies holds);
+        names = parts_wider from from mark.end end (pattern_names mark held) (omega arith) grows (pattern_lies from to mark marks others held lies holds);
         sides = ok_at (TailLies from end) (tail_of marks (drop 1 insides)) tail found
             (by_equals_lies from (end_of from (take n marks)) end marks (drop 1 insides) (drop n marks) (drop n (drop 1 insides)) behind (lies_closely from end (take n marks) (lies_take n from end marks behind)) (lies_behind n from end marks behind));
       },
@@ -183,20 +177,20 @@ abbrev left_of : Option ℕ → ℕ → List Mark → List Mark
 left_of None inside marks = drop inside marks
 left_of (Some anchor) inside marks = marks
 
-bindings_lie : (to : ℕ) (anchor : Option ℕ) (inside : ℕ) (marks : List Mark) (insides : List Inside) (from : ℕ) → InOrder from (left_of anchor inside marks) to → Beside InsideLies marks insides → OkHolds (BoundsLie to from) (bindings_from anchor inside marks insides)
-bindings_lie to None inside [] insides from lies holds = (tt, tt)
-bindings_lie to (Some anchor) inside [] insides from lies holds = tt
-bindings_lie to None (suc inside) (mark ∷ marks) insides from lies holds = bindings_lie to None inside marks (drop 1 insides) from lies (beside_drop InsideLies 1 (mark ∷ marks) insides holds)
-bindings_lie to None zero (comma ∷ marks) insides from lies holds = bindings_lie to (Some comma.start) 0 marks (drop 1 insides) from (lies_drop 1 from to (comma ∷ marks) lies) (beside_drop InsideLies 1 (comma ∷ marks) insides holds)
-bindings_lie to (Some anchor) inside (mark ∷ marks) insides from lies holds =
+bindings_lie : (to : ℕ) (anchor : Option ℕ) (inside : ℕ) (marks : List Mark) (insides : List Inside) (held : List Held) (from : ℕ) → InOrder from (left_of anchor inside marks) to → Beside HeldLies marks held → OkHolds (BoundsLie to from) (bindings_from anchor inside marks insides held)
+bindings_lie to None inside [] insides held from lies holds = (tt, tt)
+bindings_lie to (Some anchor) inside [] insides held from lies holds = tt
+bindings_lie to None (suc inside) (mark ∷ marks) insides held from lies holds = bindings_lie to None inside marks (drop 1 insides) (drop 1 held) from lies (beside_drop HeldLies 1 (mark ∷ marks) held holds)
+bindings_lie to None zero (comma ∷ marks) insides held from lies holds = bindings_lie to (Some comma.start) 0 marks (drop 1 insides) (drop 1 held) from (lies_drop 1 from to (comma ∷ marks) lies) (beside_drop HeldLies 1 (comma ∷ marks) held holds)
+bindings_lie to (Some anchor) inside (mark ∷ marks) insides held from lies holds =
     let n = binding_length false 0 0 marks in
     let end = end_of mark.end (take n marks) in
     let behind = lies_behind n mark.end to marks lies.2 in
     let last = bounds end to (drop n marks) behind in
-    ok_then (BoundsLie to from) (binding_of (mark ∷ take n marks) insides) _ (λ one is.
-    ok_then (BoundsLie to from) (bindings_from None n marks (drop 1 insides)) _ (λ others are.
-    let first = ok_at (BoundLies from end) (binding_of (mark ∷ take n marks) insides) one is (bound_lies from to mark (take n marks) marks insides (lies_take (suc n) from to (mark ∷ marks) lies) holds) in
-    let rest : BoundsLie to end others = ok_at (BoundsLie to end) (bindings_from None n marks (drop 1 insides)) others are (bindings_lie to None n marks (drop 1 insides) end behind (beside_drop InsideLies 1 (mark ∷ marks) insides holds)) in
+    ok_then (BoundsLie to from) (binding_of (mark ∷ take n marks) insides held) _ (λ one is.
+    ok_then (BoundsLie to from) (bindings_from None n marks (drop 1 insides) (drop 1 held)) _ (λ others are.
+    let first = ok_at (BoundLies from end) (binding_of (mark ∷ take n marks) insides held) one is (bound_lies from to mark (take n marks) marks insides held (lies_take (suc n) from to (mark ∷ marks) lies) holds) in
+    let rest : BoundsLie to end others = ok_at (BoundsLie to end) (bindings_from None n marks (drop 1 insides) (drop 1 held)) others are (bindings_lie to None n marks (drop 1 insides) (drop 1 held) end behind (beside_drop HeldLies 1 (mark ∷ marks) held holds)) in
     let further : BoundsLie to one.binding.end others = subst (λ e. BoundsLie to e others) first.1 rest in
     ((first.0, omega (arith, last, first.1), further.0), parts_join from one.binding.end to one.binding.names (all_names others) (omega (arith, first.0.some)) (omega (arith, last, first.1)) first.0.names further.1)))
 
@@ -240,10 +234,10 @@ module _ (from to : ℕ) where
   named_fits : (starter : Mark) (marks : List Mark) → InOrder from marks to → OkHolds Fit (named starter marks)
   named_fits starter marks lies = ok_then Fit (first_name starter marks) _ (λ name is. only_names (name ∷ []) (ok_at (Between from to) (first_name starter marks) name is (first_name_lies from to starter marks lies), tt))
 
-  variable_lies : (starter : Mark) (marks : List Mark) (insides : List Inside) → InOrder from marks to → Beside InsideLies marks insides → OkHolds Fit (of_variable starter marks insides)
-  variable_lies starter marks insides lies holds =
-      ok_then Fit (bindings_from (Some starter.start) 0 marks insides) _ (λ bounds are.
-      let both = ok_at (BoundsLie to from) (bindings_from (Some starter.start) 0 marks insides) bounds are (bindings_lie to (Some starter.start) 0 marks insides from lies holds) in
+  variable_lies : (starter : Mark) (marks : List Mark) (insides : List Inside) (held : List Held) → InOrder from marks to → Beside HeldLies marks held → OkHolds Fit (of_variable starter marks insides held)
+  variable_lies starter marks insides held lies holds =
+      ok_then Fit (bindings_from (Some starter.start) 0 marks insides held) _ (λ bounds are.
+      let both = ok_at (BoundsLie to from) (bindings_from (Some starter.start) 0 marks insides held) bounds are (bindings_lie to (Some starter.start) 0 marks insides held from lies holds) in
       record { names = both.1; bindings = both.0; inherits = tt; extended = tt })
 
   cases_fit : (starter : Mark) (marks : List Mark) → InOrder from marks to → OkHolds Fit (of_case starter marks)
@@ -254,24 +248,24 @@ module _ (from to : ℕ) where
   function_lies starter marks insides lies = ok_then Fit (function_name starter marks) _ (λ name is. code_lies false name marks insides (ok_at (Between from to) (function_name starter marks) name is (function_name_lies from to starter marks lies)))
 
   -- one row a kind
-  pub parts_lie : (of_kind : Kind) (starter : Mark) (marks : List Mark) (insides : List Inside) → Between from to (span_of starter) → InOrder from marks to → Beside InsideLies marks insides → OkHolds Fit (parts of_kind starter marks insides)
-  parts_lie kind.Import starter marks insides begins lies holds = only_names [] tt
-  parts_lie kind.Typealias starter marks insides begins lies holds = named_fits starter marks lies
-  parts_lie kind.Associatedtype starter marks insides begins lies holds = named_fits starter marks lies
-  parts_lie kind.Struct starter marks insides begins lies holds = type_lies starter marks lies
-  parts_lie kind.Class starter marks insides begins lies holds = type_lies starter marks lies
-  parts_lie kind.Enum starter marks insides begins lies holds = type_lies starter marks lies
-  parts_lie kind.Protocol starter marks insides begins lies holds = type_lies starter marks lies
-  parts_lie kind.Extension starter marks insides begins lies holds = extension_lies starter marks lies
-  parts_lie kind.Func starter marks insides begins lies holds = function_lies starter marks insides lies
-  parts_lie kind.Var starter marks insides begins lies holds = variable_lies starter marks insides lies holds
-  parts_lie kind.Let starter marks insides begins lies holds = variable_lies starter marks insides lies holds
-  parts_lie kind.Init starter marks insides begins lies holds = code_lies false (span_of starter) marks insides begins
-  parts_lie kind.Deinit starter marks insides begins lies holds = code_lies false (span_of starter) marks insides begins
-  parts_lie kind.Subscript starter marks insides begins lies holds = code_lies true (span_of starter) marks insides begins
-  parts_lie kind.Case starter marks insides begins lies holds = cases_fit starter marks lies
-  parts_lie kind.Operator starter marks insides begins lies holds = only_names [] tt
-  parts_lie kind.Precedencegroup starter marks insides begins lies holds = only_names [] tt
-  parts_lie kind.Actor starter marks insides begins lies holds = type_lies starter marks lies
-  parts_lie kind.Macro starter marks insides begins lies holds = named_fits starter marks lies
-  parts_lie kind.UseItem starter marks insides begins lies holds = only_names [] tt
+  pub parts_lie : (of_kind : Kind) (starter : Mark) (marks : List Mark) (insides : List Inside) (held : List Held) → Between from to (span_of starter) → InOrder from marks to → Beside HeldLies marks held → OkHolds Fit (parts of_kind starter marks insides held)
+  parts_lie kind.Import starter marks insides held begins lies holds = only_names [] tt
+  parts_lie kind.Typealias starter marks insides held begins lies holds = named_fits starter marks lies
+  parts_lie kind.Associatedtype starter marks insides held begins lies holds = named_fits starter marks lies
+  parts_lie kind.Struct starter marks insides held begins lies holds = type_lies starter marks lies
+  parts_lie kind.Class starter marks insides held begins lies holds = type_lies starter marks lies
+  parts_lie kind.Enum starter marks insides held begins lies holds = type_lies starter marks lies
+  parts_lie kind.Protocol starter marks insides held begins lies holds = type_lies starter marks lies
+  parts_lie kind.Extension starter marks insides held begins lies holds = extension_lies starter marks lies
+  parts_lie kind.Func starter marks insides held begins lies holds = function_lies starter marks insides lies
+  parts_lie kind.Var starter marks insides held begins lies holds = variable_lies starter marks insides held lies holds
+  parts_lie kind.Let starter marks insides held begins lies holds = variable_lies starter marks insides held lies holds
+  parts_lie kind.Init starter marks insides held begins lies holds = code_lies false (span_of starter) marks insides begins
+  parts_lie kind.Deinit starter marks insides held begins lies holds = code_lies false (span_of starter) marks insides begins
+  parts_lie kind.Subscript starter marks insides held begins lies holds = code_lies true (span_of starter) marks insides begins
+  parts_lie kind.Case starter marks insides held begins lies holds = cases_fit starter marks lies
+  parts_lie kind.Operator starter marks insides held begins lies holds = only_names [] tt
+  parts_lie kind.Precedencegroup starter marks insides held begins lies holds = only_names [] tt
+  parts_lie kind.Actor starter marks insides held begins lies holds = type_lies starter marks lies
+  parts_lie kind.Macro starter marks insides held begins lies holds = named_fits starter marks lies
+  parts_lie kind.UseItem starter marks insides held begins lies holds = only_names [] tt

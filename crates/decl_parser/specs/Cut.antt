@@ -23,15 +23,12 @@ use Rattle.decl_parser.specs.declared.inside.Inside.{Inside}
 use Rattle.decl_parser.specs.declared.inside.BlockAt.{BlockAt}
 use Rattle.decl_parser.specs.declared.parts.Parts.{Parts}
 use Rattle.decl_parser.specs.Faults.{fault}
+use Rattle.decl_parser.specs.Held.{MembersRead, Held, first_held}
 use Rattle.decl_parser.specs.Places.{has_place}
 use Rattle.decl_parser.specs.Insides.{nothing_inside}
 use Rattle.decl_parser.specs.Attributes.{span_from}
 use Rattle.decl_parser.specs.Found.{Found, found_from}
 use Rattle.decl_parser.specs.Parts.{parts, has_members}
-
--- the declarations in a group's braces, or their first fault
-abbrev pub MembersRead : Type 0
-MembersRead = Result (List ItemSeen) ParseFault
 
 -- the kind of declaration that a word begins
 abbrev pub word_kind : Starter → Kind
@@ -111,13 +108,10 @@ ends own = ends_at (slice_get own (length own - 1))
 abbrev pub members_place : Mark → ℕ → List Mark → Option ℕ
 members_place starter head own = if has_members (kind_of starter) then Some (head + before is_braces (drop head own)) else None
 
-abbrev pub first_members : List MembersRead → MembersRead
-first_members [] = Ok []
-first_members (members ∷ others) = members
-
-abbrev pub members_at : Option ℕ → List MembersRead → MembersRead
-members_at None members = Ok []
-members_at (Some place) members = first_members (drop place members)
+-- the declarations in the braces at the place
+abbrev pub members_at : Option ℕ → List Held → MembersRead
+members_at None held = Ok []
+members_at (Some place) held = (first_held (drop place held)).members
 
 -- what stands inside the braces at the place is not looked at
 abbrev pub without : Option ℕ → List Inside → List Inside
@@ -169,44 +163,44 @@ all_ends body starter list from =
     and_then (closed body (drop (head_of (drop from list)) (drop from list))) (λ closes. and_then (use_ends starter list from) (λ alone. ends (drop from list)))
 
 -- the declaration by its starter, or its first fault
-abbrev pub item_by : List Mark → ℕ → List Mark → List Inside → List MembersRead → Mark → Result ItemSeen ParseFault
-item_by list from next insides members starter =
+abbrev pub item_by : List Mark → ℕ → List Mark → List Inside → List Held → Mark → Result ItemSeen ParseFault
+item_by list from next insides held starter =
     let own = drop from list in
     let head = head_of own in
     let place = members_place starter head own in
     let outside = without place insides in
-    and_then (parts (kind_of starter) starter (drop head own) (drop head outside)) (λ parts.
-    and_then (members_at place members) (λ inner.
+    and_then (parts (kind_of starter) starter (drop head own) (drop head outside) (drop head held)) (λ parts.
+    and_then (members_at place held) (λ inner.
     and_then (all_ends parts.body starter list from) (λ ended. Ok (whole_item list from next (kind_of starter) parts outside inner))))
 
 -- the declaration from the place `from` to the end of `list`, or its first fault; `next` stands behind it.
--- `insides` and `members` are those of its elements
-unfoldable pub item_at : Place → List Mark → ℕ → List Mark → List Inside → List MembersRead → Result ItemSeen ParseFault
-item_at place list from next insides members = and_then (beginning place (drop from list)) (item_by list from next insides members)
+-- `insides` and `held` are those of its elements
+unfoldable pub item_at : Place → List Mark → ℕ → List Mark → List Inside → List Held → Result ItemSeen ParseFault
+item_at place list from next insides held = and_then (beginning place (drop from list)) (item_by list from next insides held)
 
 -- how many elements the declaration is that begins here
 abbrev pub count_of : List Mark → ℕ
 count_of marks = item_length (head_of marks) marks
 
 -- the declaration that begins at the place
-abbrev pub one_item : Place → List Mark → List Inside → List MembersRead → ℕ → Result ItemSeen ParseFault
-one_item place marks insides members at =
+abbrev pub one_item : Place → List Mark → List Inside → List Held → ℕ → Result ItemSeen ParseFault
+one_item place marks insides held at =
     let count = count_of (drop at marks) in
-    item_at place (take (at + count) marks) at (drop (at + count) marks) (take count (drop at insides)) (take count (drop at members))
+    item_at place (take (at + count) marks) at (drop (at + count) marks) (take count (drop at insides)) (take count (drop at held))
 
 -- one declaration more
 abbrev pub with_first : Result ItemSeen ParseFault → MembersRead → MembersRead
 with_first one others = and_then one (λ first. and_then others (λ items. Ok (first ∷ items)))
 
 -- the declarations of a list from the place `at` on, where `left` elements are left, past `inside` elements of one that began before
-abbrev pub cut_from : Place → List Mark → List Inside → List MembersRead → ℕ → ℕ → ℕ → MembersRead
-cut_from place marks insides members at inside zero = Ok []
-cut_from place marks insides members at (suc inside) (suc left) = cut_from place marks insides members (suc at) inside left
-cut_from place marks insides members at zero (suc left) =
-    if first_is is_semicolon (drop at marks) then cut_from place marks insides members (suc at) 0 left
+abbrev pub cut_from : Place → List Mark → List Inside → List Held → ℕ → ℕ → ℕ → MembersRead
+cut_from place marks insides held at inside zero = Ok []
+cut_from place marks insides held at (suc inside) (suc left) = cut_from place marks insides held (suc at) inside left
+cut_from place marks insides held at zero (suc left) =
+    if first_is is_semicolon (drop at marks) then cut_from place marks insides held (suc at) 0 left
     else (if head_of (drop at marks) == 0 then Err (fault (start_of (drop at marks)) NotADeclaration)
-    else with_first (one_item place marks insides members at) (cut_from place marks insides members (suc at) (count_of (drop at marks) - 1) left))
+    else with_first (one_item place marks insides held at) (cut_from place marks insides held (suc at) (count_of (drop at marks) - 1) left))
 
 -- the declarations of a list, or the first fault
-unfoldable pub items_in : Place → List Mark → List Inside → List MembersRead → MembersRead
-items_in place marks insides members = cut_from place marks insides members 0 0 (length marks)
+unfoldable pub items_in : Place → List Mark → List Inside → List Held → MembersRead
+items_in place marks insides held = cut_from place marks insides held 0 0 (length marks)

@@ -21,7 +21,7 @@ use Rattle.decl_parser.specs.declared.inside.Inside.{Inside}
 use Rattle.decl_parser.specs.Faults.{fault}
 use Rattle.decl_parser.specs.Attributes.{attr_of, span_from}
 use Rattle.decl_parser.specs.Found.{Found, found_in}
-use Rattle.decl_parser.specs.Cut.{MembersRead}
+use Rattle.decl_parser.specs.Held.{MembersRead}
 use Rattle.decl_parser.specs.Levels.{insides, items_of_list, tree_inside}
 
 -- an outline of the shape with nothing in it, of which that part is spliced

@@ -2,34 +2,26 @@
 use Rattle.std.specs.Prelude.{ℕ, suc, ◌+◌, List, [], ◌∷◌, Option, Some, None, Ok, Bool, true, false, ◌&&◌, not}
 use Rattle.swift_lexer.specs.Trees.{Tree, Forest, leaf, nest, none, cons}
 use Rattle.element_marks.specs.declared.mark.Mark.{Mark}
-use Rattle.swift_base.specs.declared.place.Span.{Span}
 use Rattle.element_marks.specs.Levels.{level}
-use Rattle.element_marks.specs.Marks.{mark_of}
-use Rattle.element_marks.specs.Sorts.{is_parentheses}
 use Rattle.element_marks.specs.Quiet.{is_quiet, may_list_accessors}
 use Rattle.element_marks.specs.Accessors.{lists_accessors, observes_from}
 use Rattle.decl_parser.specs.declared.inside.Inside.{Inside}
 use Rattle.decl_parser.specs.declared.place.Place.{Place}
 use Rattle.decl_parser.specs.declared.place.Place.TheVariants.{Members}
 use Rattle.decl_parser.specs.Insides.{nothing_inside}
-use Rattle.decl_parser.specs.Bindings.{names_inside}
+use Rattle.decl_parser.specs.Bindings.{names_of}
+use Rattle.decl_parser.specs.Held.{MembersRead, Held, nothing_held}
 use Rattle.decl_parser.specs.Found.{found_in}
-use Rattle.decl_parser.specs.Cut.{MembersRead, items_in}
+use Rattle.decl_parser.specs.Cut.{items_in}
 
 -- the elements inside a group
 abbrev pub tree_inside : Tree → Option Forest
 tree_inside (leaf token) = None
 tree_inside (nest left inner right) = Some inner
 
--- the names of a pattern's parentheses; other groups are no pattern
-abbrev pub names_if : Bool → List Mark → List Inside → List Span
-names_if true marks insides = names_inside marks insides
-names_if false marks insides = []
-
--- what stands inside a group, by the elements of its list, and by whether it is one of parentheses
-unfoldable pub read_inside : Bool → List Mark → List Inside → Inside
-read_inside parentheses marks insides = record {
-  names = names_if parentheses marks insides;
+-- what stands inside a group, by the elements of its list
+unfoldable pub read_inside : List Mark → List Inside → Inside
+read_inside marks insides = record {
   observes = observes_from 0 marks;
   lists_accessors = lists_accessors marks;
   uses = (found_in marks insides).uses;
@@ -39,7 +31,7 @@ read_inside parentheses marks insides = record {
 unfoldable mutual
   pub inside_of : List ℕ → Tree → Inside
   inside_of text (leaf token) = nothing_inside
-  inside_of text (nest left inner right) = read_inside (is_parentheses (mark_of text (nest left inner right))) (level text inner) (insides text inner)
+  inside_of text (nest left inner right) = read_inside (level text inner) (insides text inner)
 
   -- what stands inside each element of a list
   pub insides : List ℕ → Forest → List Inside
@@ -47,18 +39,18 @@ unfoldable mutual
   insides text (cons tree forest) = inside_of text tree ∷ insides text forest
 
 unfoldable mutual
-  pub members_of : List ℕ → Tree → MembersRead
-  members_of text (leaf token) = Ok []
-  members_of text (nest left inner right) = items_in Members (level text inner) (insides text inner) (members text inner)
+  pub held_of : List ℕ → Tree → Held
+  held_of text (leaf token) = nothing_held
+  held_of text (nest left inner right) = record { members = items_in Members (level text inner) (insides text inner) (held text inner); names = names_of text inner }
 
-  -- the members that each element of a list has
-  pub members : List ℕ → Forest → List MembersRead
-  members text none = []
-  members text (cons tree forest) = members_of text tree ∷ members text forest
+  -- what each element of a list holds
+  pub held : List ℕ → Forest → List Held
+  held text none = []
+  held text (cons tree forest) = held_of text tree ∷ held text forest
 
 -- the declarations of a list
 unfoldable pub items_of_list : Place → List ℕ → Forest → MembersRead
-items_of_list place text forest = items_in place (level text forest) (insides text forest) (members text forest)
+items_of_list place text forest = items_in place (level text forest) (insides text forest) (held text forest)
 
 -- the declarations inside a group, where there is one
 abbrev pub members_by : List ℕ → Option Forest → MembersRead
@@ -79,11 +71,12 @@ abbrev pub is_leaf : Tree → Bool
 is_leaf (leaf token) = true
 is_leaf (nest left inner right) = false
 
--- no element is a group
-abbrev pub is_flat : Forest → Bool
-is_flat none = true
-is_flat (cons tree forest) = is_leaf tree && is_flat forest
+-- no macro use, no attribute and no accessor stands in the brackets of the element, at any depth
+abbrev mutual
+  pub is_silent : List ℕ → Tree → Bool
+  is_silent text (leaf token) = true
+  is_silent text (nest left inner right) = is_quiet inner && not (may_list_accessors text inner) && are_silent text inner
 
--- elements that say by their own text what stands there: no group, no use, no attribute and no accessor is among them
-abbrev pub is_simple : List ℕ → Forest → Bool
-is_simple text forest = is_flat forest && is_quiet forest && not (may_list_accessors text forest)
+  pub are_silent : List ℕ → Forest → Bool
+  are_silent text none = true
+  are_silent text (cons tree forest) = is_silent text tree && are_silent text forest

@@ -19,6 +19,7 @@ use Rattle.decl_parser.specs.declared.inside.BlockAt.{BlockAt}
 use Rattle.decl_parser.specs.declared.bindings.Bound.{Bound}
 use Rattle.decl_parser.specs.declared.parts.Parts.{Parts}
 use Rattle.decl_parser.specs.Faults.{fault}
+use Rattle.decl_parser.specs.Held.{Held}
 use Rattle.decl_parser.specs.Insides.{block_here}
 use Rattle.decl_parser.specs.Bindings.{bindings_from}
 
@@ -121,34 +122,34 @@ variable_parts bounds = record (names_only (all_names bounds)) { bindings = map 
 abbrev pub named : Mark → List Mark → Result Parts ParseFault
 named starter marks = and_then (first_name starter marks) (λ name. Ok (names_only (name ∷ [])))
 
-abbrev pub of_variable : Mark → List Mark → List Inside → Result Parts ParseFault
-of_variable starter marks insides = and_then (bindings_from (Some starter.start) 0 marks insides) (λ bounds. Ok (variable_parts bounds))
+abbrev pub of_variable : Mark → List Mark → List Inside → List Held → Result Parts ParseFault
+of_variable starter marks insides held = and_then (bindings_from (Some starter.start) 0 marks insides held) (λ bounds. Ok (variable_parts bounds))
 
 abbrev pub of_case : Mark → List Mark → Result Parts ParseFault
 of_case starter marks = and_then (case_names (Some starter.start) marks) (λ names. Ok (names_only names))
 
 -- one row a kind: the parts by the starter and what stands behind it
-abbrev pub parts : Kind → Mark → List Mark → List Inside → Result Parts ParseFault
-parts kind.Import starter marks insides = Ok (names_only [])
-parts kind.Typealias starter marks insides = named starter marks
-parts kind.Associatedtype starter marks insides = named starter marks
-parts kind.Struct starter marks insides = of_type starter marks
-parts kind.Class starter marks insides = of_type starter marks
-parts kind.Enum starter marks insides = of_type starter marks
-parts kind.Protocol starter marks insides = of_type starter marks
-parts kind.Extension starter marks insides = of_extension starter marks
-parts kind.Func starter marks insides = of_function starter marks insides
-parts kind.Var starter marks insides = of_variable starter marks insides
-parts kind.Let starter marks insides = of_variable starter marks insides
-parts kind.Init starter marks insides = Ok (code false (span_of starter) marks insides)
-parts kind.Deinit starter marks insides = Ok (code false (span_of starter) marks insides)
-parts kind.Subscript starter marks insides = Ok (code true (span_of starter) marks insides)
-parts kind.Case starter marks insides = of_case starter marks
-parts kind.Operator starter marks insides = Ok (names_only [])
-parts kind.Precedencegroup starter marks insides = Ok (names_only [])
-parts kind.Actor starter marks insides = of_type starter marks
-parts kind.Macro starter marks insides = named starter marks
-parts kind.UseItem starter marks insides = Ok (names_only [])
+abbrev pub parts : Kind → Mark → List Mark → List Inside → List Held → Result Parts ParseFault
+parts kind.Import starter marks insides held = Ok (names_only [])
+parts kind.Typealias starter marks insides held = named starter marks
+parts kind.Associatedtype starter marks insides held = named starter marks
+parts kind.Struct starter marks insides held = of_type starter marks
+parts kind.Class starter marks insides held = of_type starter marks
+parts kind.Enum starter marks insides held = of_type starter marks
+parts kind.Protocol starter marks insides held = of_type starter marks
+parts kind.Extension starter marks insides held = of_extension starter marks
+parts kind.Func starter marks insides held = of_function starter marks insides
+parts kind.Var starter marks insides held = of_variable starter marks insides held
+parts kind.Let starter marks insides held = of_variable starter marks insides held
+parts kind.Init starter marks insides held = Ok (code false (span_of starter) marks insides)
+parts kind.Deinit starter marks insides held = Ok (code false (span_of starter) marks insides)
+parts kind.Subscript starter marks insides held = Ok (code true (span_of starter) marks insides)
+parts kind.Case starter marks insides held = of_case starter marks
+parts kind.Operator starter marks insides held = Ok (names_only [])
+parts kind.Precedencegroup starter marks insides held = Ok (names_only [])
+parts kind.Actor starter marks insides held = of_type starter marks
+parts kind.Macro starter marks insides held = named starter marks
+parts kind.UseItem starter marks insides held = Ok (names_only [])
 
 -- the kinds whose block holds declarations
 abbrev pub has_members : Kind → Bool

@@ -1,24 +1,25 @@
 // The bindings of `var` and `let`.
 
-ghost use Rattle.std.specs.Prelude.{◌≡◌, ◌++◌, ◌&&◌, not, IfOk, OnOk, Some, None};
+ghost use Rattle.std.specs.Prelude.{◌≡◌, Some, None};
 ghost use Rattle.swift_base.specs.declared.refusal.Refusal.TheVariants.{Fault};
+ghost use Rattle.swift_lexer.specs.Trees.{forest_of};
 ghost use Rattle.element_marks.specs.Answers.{Answers};
-ghost use Rattle.element_marks.specs.Heads.{first_is};
-ghost use Rattle.element_marks.specs.Sorts.{is_colon, is_name};
-ghost use Rattle.element_marks.specs.Words.{is_underscore};
 ghost use Rattle.decl_parser.specs.declared.fault.ParseKind.TheVariants.{BadBinding};
-ghost use Rattle.decl_parser.specs.Bindings.{binding_of, bindings_from, blocked, has_observers, names_here, names_inside, pattern_names, tail_of, type_before, with_initializer, without_initializer};
+ghost use Rattle.decl_parser.specs.Bindings.{binding_of, bindings_from, blocked, has_observers, tail_of, type_before, with_initializer, without_initializer};
+ghost use Rattle.decl_parser.specs.Levels.{held};
 
 use crate::attributes::span_from;
 use crate::fault::{ParseFault, ParseKind, fault};
-use crate::inside::{BlockAt, Inside, block_here, first_names, first_observes};
+use crate::inside::{BlockAt, Inside, block_here, first_observes};
 use crate::lists::{add, behind, upto};
+use crate::pattern::pattern_names;
 use element_marks::{
-    Mark, before_braces, before_equals, binding_length, first_braces, first_colon, is_braces,
-    is_colon, is_name, is_parentheses, is_pattern, is_underscore, name_of, whole,
+    Mark, before_braces, before_equals, binding_length, first_braces, is_braces, is_colon,
+    is_pattern, whole,
 };
-use std::alloc::{AllocError, Global};
+use std::alloc::Global;
 use swift_base::{Listed, Refusal, Span};
+use swift_lexer::Element;
 use swift_tree::Binding;
 
 /// A binding, and its block where it has one.
@@ -43,25 +44,28 @@ fn bad(at: u32) -> Refusal<ParseFault>
     fault(at, ParseKind::BadBinding)
 }
 
-/// The bindings behind the starter at `anchor`.
+/// The bindings behind the starter at `anchor`, which the elements are.
 pub fn bindings(
     alloc: Global,
+    text: &[u8],
     anchor: u32,
     marks: &[Mark],
     insides: &[Inside],
+    elements: &[Element],
 ) -> Result<Vec<Bound>, Refusal<ParseFault>>
-    ensures { Answers (λ bounds. bounds.items) result (λ outcome. outcome ≡ bindings_from (Some anchor) 0 marks.now insides.now) }
+    ensures { Answers (λ bounds. bounds.items) result (λ outcome. outcome ≡ bindings_from (Some anchor) 0 marks.now insides.now (held text.now (forest_of elements.now))) }
 {
     let mut bounds = Vec::with_capacity(alloc, 1)?;
     let mut before = anchor;
     let mut rest = marks;
     let mut within = insides;
+    let mut left = elements;
     'bindings: loop {
         if rest.is_empty() {
             return Err(bad(before));
         }
         let count = 1 + binding_length(behind(rest, 1));
-        let bound = binding_of(alloc, upto(rest, count), within)?;
+        let bound = binding_of(alloc, text, upto(rest, count), within, left)?;
         add(&mut bounds, bound)?;
         let Some((comma, others)) = behind(rest, count).split_first() else {
             return Ok(bounds);
@@ -69,16 +73,19 @@ pub fn bindings(
         before = comma.start;
         rest = others;
         within = behind(behind(within, count), 1);
+        left = behind(behind(left, count), 1);
     }
 }
 
-/// The binding that the elements are.
+/// The binding that the elements with the marks are.
 fn binding_of(
     alloc: Global,
+    text: &[u8],
     marks: &[Mark],
     insides: &[Inside],
+    elements: &[Element],
 ) -> Result<Bound, Refusal<ParseFault>>
-    ensures { Answers (λ bound. bound) result (λ outcome. outcome ≡ binding_of marks.now insides.now) }
+    ensures { Answers (λ bound. bound) result (λ outcome. outcome ≡ binding_of marks.now insides.now (held text.now (forest_of elements.now))) }
 {
     let Some(pattern) = marks.first() else {
         return Err(bad(0));
@@ -87,7 +94,7 @@ fn binding_of(
         return Err(bad(pattern.start));
     }
     let tail = tail_of(behind(marks, 1), behind(insides, 1))?;
-    let names = pattern_names(alloc, pattern, insides)?;
+    let names = pattern_names(alloc, text, pattern, elements)?;
     let binding = Binding {
         names: Listed::from_vec(names),
         type_span: tail.type_span,
@@ -99,64 +106,6 @@ fn binding_of(
         binding,
         block: tail.block,
     })
-}
-
-/// The names of a pattern, inside which the first of `insides` stands.
-fn pattern_names(alloc: Global, pattern: &Mark, insides: &[Inside]) -> Result<Vec<Span>, AllocError>
-    ensures { IfOk result (λ names. names.items ≡ pattern_names pattern.now insides.now) }
-{
-    if is_parentheses(pattern) {
-        return Vec::from_slice(alloc, first_names(insides));
-    }
-    if is_underscore(pattern.keyword) {
-        return Ok(Vec::new(alloc));
-    }
-    let mut names = Vec::with_capacity(alloc, 1)?;
-    names.push(name_of(pattern))?;
-    Ok(names)
-}
-
-/// The names in a pattern's parentheses; a label is none.
-pub fn names_inside(
-    alloc: Global,
-    marks: &[Mark],
-    insides: &[Inside],
-) -> Result<Vec<Span>, AllocError>
-    ensures { IfOk result (λ names. names.items ≡ names_inside marks.now insides.now) }
-{
-    let mut names = Vec::new(alloc);
-    let mut elements = marks;
-    let mut within = insides;
-    'elements: while let Some((mark, others)) = elements.split_first() {
-        add_names(&mut names, mark, others, within)?;
-        elements = others;
-        within = behind(within, 1);
-    }
-    Ok(names)
-}
-
-/// Adds the names that an element gives, behind which `marks` stand, and inside which the first of `insides` does.
-fn add_names(
-    names: &mut Vec<Span>,
-    mark: &Mark,
-    marks: &[Mark],
-    insides: &[Inside],
-) -> Result<(), AllocError>
-    ensures { OnOk result (names.new.items ≡ names.old.items ++ names_here mark.now marks.now insides.now) }
-{
-    if is_parentheses(mark) {
-        return names.extend_from_slice(first_names(insides));
-    }
-    if is_pattern_name(mark, marks) {
-        return add(names, name_of(mark));
-    }
-    Ok(())
-}
-
-fn is_pattern_name(mark: &Mark, marks: &[Mark]) -> bool
-    ensures { result ≡ (is_name mark.now && not (is_underscore mark.now.keyword) && not (first_is is_colon marks.now)) }
-{
-    is_name(mark) && !is_underscore(mark.keyword) && !first_colon(marks)
 }
 
 /// What a binding has behind its pattern.

@@ -1,27 +1,24 @@
 // What is kept of a group's elements while they are read, one after another.
 
-ghost use Rattle.std.specs.Prelude.{◌≡◌, ◌∷◌, ◌++◌, [], IfOk, OnOk, if◌then◌else◌, true};
+ghost use Rattle.std.specs.Prelude.{◌≡◌, IfOk, OnOk, true};
 ghost use Rattle.swift_lexer.specs.Trees.{Forest, cons, forest_of, none, tree_of};
-ghost use Rattle.element_marks.specs.Levels.{level, own_marks};
-ghost use Rattle.element_marks.specs.Marks.{mark_of};
-ghost use Rattle.decl_parser.specs.Bindings.{names_here};
+ghost use Rattle.element_marks.specs.Levels.{level};
 ghost use Rattle.decl_parser.specs.Gathering.{IsGathered};
 ghost use Rattle.decl_parser.specs.Levels.{inside_of, insides, is_leaf, read_inside};
 
-use crate::inside::{Inside, first_locals, first_uses, nothing_inside};
+use crate::inside::{Inside, nothing_inside};
 use crate::levels::read_inside;
 use crate::lists::add;
-use crate::quiet::{add_element_names, add_locals, add_uses};
+use crate::quiet::{add_locals, add_uses};
 use element_marks::{is_quiet, marks_in, may_list_accessors};
 use std::alloc::{AllocError, Global};
-use swift_base::{Listed, Span};
+use swift_base::Listed;
 use swift_lexer::Element;
 use swift_tree::{Attr, MacroUse};
 
 /// What a group in whose list no macro use and no attribute begins has to tell.
 #[derive(Drop)]
 pub struct Told {
-    pub names: Vec<Span>,
     pub uses: Vec<MacroUse>,
     pub locals: Vec<Attr>,
 }
@@ -35,18 +32,12 @@ pub enum Gathered {
     Quiet(Told),
 }
 
-/// Nothing is read yet, in parentheses or in another group.
-pub fn start(
-    alloc: Global,
-    text: &[u8],
-    elements: &[Element],
-    parentheses: bool,
-) -> Result<Gathered, AllocError>
-    ensures { IfOk result (λ read. IsGathered text.now parentheses read (forest_of elements.now) (forest_of elements.now)) }
+/// Nothing is read yet.
+pub fn start(alloc: Global, text: &[u8], elements: &[Element]) -> Result<Gathered, AllocError>
+    ensures { IfOk result (λ read. IsGathered text.now read (forest_of elements.now) (forest_of elements.now)) }
 {
     if is_quiet(elements) && !may_list_accessors(text, elements) {
         return Ok(Gathered::Quiet(Told {
-            names: Vec::new(alloc),
             uses: Vec::new(alloc),
             locals: Vec::new(alloc),
         }));
@@ -64,26 +55,16 @@ impl Gathered {
         element: &Element,
         others: &[Element],
         inside: Inside,
-        parentheses: bool,
     ) -> Result<(), AllocError>
         requires { inside ≡ inside_of text.now (tree_of element.now) }
-        ensures { (elements : Forest) → IsGathered text.now parentheses self.old (cons (tree_of element.now) (forest_of others.now)) elements
-            → OnOk result (IsGathered text.now parentheses self.new (forest_of others.now) elements) }
+        ensures { (elements : Forest) → IsGathered text.now self.old (cons (tree_of element.now) (forest_of others.now)) elements
+            → OnOk result (IsGathered text.now self.new (forest_of others.now) elements) }
     {
         match self {
             Gathered::Each(list) => add(list, inside),
             Gathered::Quiet(told) => {
-                let insides = [inside];
-                tell_names(
-                    &mut told.names,
-                    text,
-                    element,
-                    others,
-                    &insides,
-                    parentheses,
-                )?;
-                add_uses(&mut told.uses, first_uses(&insides))?;
-                add_locals(alloc, &mut told.locals, first_locals(&insides))
+                add_uses(&mut told.uses, inside.uses.items())?;
+                add_locals(alloc, &mut told.locals, inside.locals.items())
             }
         }
     }
@@ -95,36 +76,15 @@ impl Gathered {
         text: &[u8],
         element: &Element,
         others: &[Element],
-        parentheses: bool,
     ) -> Result<(), AllocError>
         requires { is_leaf (tree_of element.now) ≡ true }
-        ensures { (elements : Forest) → IsGathered text.now parentheses self.old (cons (tree_of element.now) (forest_of others.now)) elements
-            → OnOk result (IsGathered text.now parentheses self.new (forest_of others.now) elements) }
+        ensures { (elements : Forest) → IsGathered text.now self.old (cons (tree_of element.now) (forest_of others.now)) elements
+            → OnOk result (IsGathered text.now self.new (forest_of others.now) elements) }
     {
         match self {
             Gathered::Each(list) => add(list, nothing_inside(alloc)),
-            Gathered::Quiet(told) => {
-                tell_names(&mut told.names, text, element, others, &[], parentheses)
-            }
+            Gathered::Quiet(_) => Ok(()),
         }
-    }
-}
-
-/// Adds the names that an element gives in parentheses.
-fn tell_names(
-    names: &mut Vec<Span>,
-    text: &[u8],
-    element: &Element,
-    others: &[Element],
-    insides: &[Inside],
-    parentheses: bool,
-) -> Result<(), AllocError>
-    ensures { OnOk result (names.new.items ≡ names.old.items ++ (if parentheses then names_here (mark_of text.now (tree_of element.now)) (own_marks text.now (forest_of others.now)) insides.now else [])) }
-{
-    if parentheses {
-        add_element_names(names, text, element, others, insides)
-    } else {
-        Ok(())
     }
 }
 
@@ -134,18 +94,16 @@ pub fn finish(
     text: &[u8],
     elements: &[Element],
     read: Gathered,
-    parentheses: bool,
 ) -> Result<Inside, AllocError>
-    requires { IsGathered text.now parentheses read none (forest_of elements.now) }
-    ensures { IfOk result (λ inside. inside ≡ read_inside parentheses (level text.now (forest_of elements.now)) (insides text.now (forest_of elements.now))) }
+    requires { IsGathered text.now read none (forest_of elements.now) }
+    ensures { IfOk result (λ inside. inside ≡ read_inside (level text.now (forest_of elements.now)) (insides text.now (forest_of elements.now))) }
 {
     match read {
         Gathered::Each(list) => {
             let marks = marks_in(alloc, text, elements)?;
-            read_inside(alloc, &marks, &list, parentheses)
+            read_inside(alloc, &marks, &list)
         }
         Gathered::Quiet(told) => Ok(Inside {
-            names: Listed::from_vec(told.names),
             observes: false,
             lists_accessors: false,
             uses: Listed::from_vec(told.uses),

@@ -12,8 +12,6 @@ use swift_tree::{Attr, BlockShape, MacroUse};
 /// What stands inside an element, read as each of the things that it may be.
 #[derive(Debug, Drop)]
 pub struct Inside {
-    /// The names of a pattern.
-    pub names: Listed<Span>,
     /// Whether observers of a variable stand there.
     pub observes: bool,
     /// Whether one accessor or more do, with braces or without.
@@ -46,7 +44,6 @@ pub fn nothing_inside(alloc: Global) -> Inside
     ensures { result ≡ nothing_inside }
 {
     Inside {
-        names: Listed::from_vec(Vec::new(alloc)),
         observes: false,
         lists_accessors: false,
         uses: Listed::from_vec(Vec::new(alloc)),
@@ -55,15 +52,6 @@ pub fn nothing_inside(alloc: Global) -> Inside
 }
 
 // What stands inside the first element, where there is one.
-
-pub fn first_names(insides: &[Inside]) -> &[Span]
-    ensures { result.now ≡ (first_inside insides.now).names }
-{
-    match insides.first() {
-        Some(inside) => inside.names.items(),
-        None => &[],
-    }
-}
 
 pub fn first_uses(insides: &[Inside]) -> &[MacroUse]
     ensures { result.now ≡ (first_inside insides.now).uses }

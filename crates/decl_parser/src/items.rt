@@ -1,6 +1,6 @@
 // Lists of elements cut into declarations.
 
-ghost use Rattle.std.specs.Prelude.{◌≡◌, ◌<◌, ◌≤◌, ◌+◌, ℕ, List, Some, IfOk, length, map, option_map};
+ghost use Rattle.std.specs.Prelude.{◌≡◌, ◌<◌, ◌≤◌, ◌+◌, ℕ, List, Some, IfOk, drop, length, map, option_map};
 ghost use Rattle.swift_lexer.specs.Trees.{forest_of};
 ghost use Rattle.swift_tree.specs.Outlines.{item_of};
 ghost use Rattle.element_marks.specs.Answers.{Answers};
@@ -8,7 +8,8 @@ ghost use Rattle.element_marks.specs.Heads.{first_is};
 ghost use Rattle.element_marks.specs.Sorts.{is_semicolon};
 ghost use Rattle.decl_parser.specs.Cut.{after, all_ends, beginning, block_of, braces_seen, closed, count_of, ends, head_of, item_at, kind_of, members_at, members_place, nothing_more, start_of, starter_of, use_ends, use_fits, whole_item, word_kind};
 ghost use Rattle.decl_parser.specs.Insides.{AreBlank};
-ghost use Rattle.decl_parser.specs.Levels.{forest_size, insides, items_of_list, members, members_by};
+ghost use Rattle.decl_parser.specs.Parts.{parts};
+ghost use Rattle.decl_parser.specs.Levels.{forest_size, held, insides, items_of_list, members_by};
 
 use crate::attributes::span_from;
 use crate::fault::{ParseFault, ParseKind, fault};
@@ -66,8 +67,8 @@ fn kind_of(starter: &Mark) -> Kind
     }
 }
 
-/// A declaration's elements: the last of `list`, from the place `from` on. `blanks` serve where no group is among
-/// them.
+/// A declaration's elements: the last of `list`, from the place `from` on. `blanks` serve where nothing stands in
+/// their brackets.
 #[derive(Clone, Copy)]
 struct Own<'a> {
     text: &'a [u8],
@@ -135,7 +136,7 @@ fn item_at(
 ) -> Result<Item, Refusal<ParseFault>>
     requires within { own.from ≤ length own.list.now }
     requires blank { AreBlank own.blanks.now }
-    ensures { Answers item_of result (λ outcome. outcome ≡ item_at place own.entry.list.now own.entry.from next.now (insides own.entry.text.now (forest_of own.entry.elements.now)) (members own.entry.text.now (forest_of own.entry.elements.now))) }
+    ensures { Answers item_of result (λ outcome. outcome ≡ item_at place own.entry.list.now own.entry.from next.now (insides own.entry.text.now (forest_of own.entry.elements.now)) (held own.entry.text.now (forest_of own.entry.elements.now))) }
 {
     let marks = behind(own.list, own.from);
     let head = head_of(marks);
@@ -144,16 +145,27 @@ fn item_at(
     let list = listed_insides(alloc, own.text, own.elements, braces, own.blanks)?;
     let insides = listed_or(own.blanks, own.elements.len(), &list);
     let kind = kind_of(&starter);
-    let parts = parts_of(
-        alloc,
-        kind,
-        &starter,
-        behind(marks, head),
-        behind(insides, head),
-    )?;
+    let parts = own_parts(alloc, own, kind, &starter, head, insides)?;
     let members = members_at(alloc, own.text, own.elements, braces, own.blanks)?;
     all_ends(parts.body, &starter, own.list, own.from)?;
     Ok(assembled(alloc, own, next, kind, parts, insides, members)?)
+}
+
+/// The parts of a declaration, of whose elements so many are its head.
+fn own_parts(
+    alloc: Global,
+    own: Own,
+    kind: Kind,
+    starter: &Mark,
+    head: usize,
+    insides: &[Inside],
+) -> Result<Parts, Refusal<ParseFault>>
+    ensures { Answers (λ parts. parts) result (λ outcome. outcome ≡ parts kind starter.now (drop head (drop own.entry.from own.entry.list.now)) (drop head insides.now) (drop head (held own.entry.text.now (forest_of own.entry.elements.now)))) }
+{
+    let marks = behind(behind(own.list, own.from), head);
+    let elements = behind(own.elements, head);
+    let insides = behind(insides, head);
+    parts_of(alloc, own.text, kind, starter, marks, insides, elements)
 }
 
 /// The declarations in the braces at the place.
@@ -166,7 +178,7 @@ fn members_at(
     blanks: &[Inside],
 ) -> Result<Vec<Item>, Refusal<ParseFault>>
     requires { AreBlank blanks.now }
-    ensures { Answers (λ items. map item_of items.items) result (λ outcome. outcome ≡ members_at place (members text.now (forest_of elements.now))) }
+    ensures { Answers (λ items. map item_of items.items) result (λ outcome. outcome ≡ members_at place (held text.now (forest_of elements.now))) }
 {
     match members_in(elements, place) {
         Some(inner) => {
@@ -212,7 +224,7 @@ fn count_of(marks: &[Mark]) -> usize
 
 /// What stands inside the braces at the place.
 fn members_in(elements: &[Element], place: Option<usize>) -> Option<&[Element]>
-    ensures members { (text : List ℕ) → members_by text (option_map (λ inner. forest_of inner.now) result) ≡ members_at place (members text (forest_of elements.now)) }
+    ensures members { (text : List ℕ) → members_by text (option_map (λ inner. forest_of inner.now) result) ≡ members_at place (held text (forest_of elements.now)) }
     ensures smaller { (inner : _) → result ≡ Some inner → forest_size (forest_of inner.now) < forest_size (forest_of elements.now) }
 {
     group_inside(elements.get(place?)?)

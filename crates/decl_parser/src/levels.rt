@@ -1,20 +1,19 @@
 // What stands inside each element of a list, at every depth.
 
-ghost use Rattle.std.specs.Prelude.{◌≡◌, IfOk, IfSome, length, option_map};
+ghost use Rattle.std.specs.Prelude.{◌≡◌, IfOk, IfSome, Some, length, option_map, true};
 ghost use Rattle.swift_lexer.specs.Trees.{forest_of, tree_of};
 ghost use Rattle.decl_parser.specs.Cut.{without};
-ghost use Rattle.decl_parser.specs.Insides.{AreBlank, listed_or};
-ghost use Rattle.decl_parser.specs.Levels.{inside_of, insides, names_if, read_inside, tree_inside};
+ghost use Rattle.decl_parser.specs.Insides.{AreBlank, IsBlankList, listed_or};
+ghost use Rattle.decl_parser.specs.Levels.{inside_of, insides, read_inside, tree_inside};
 
-use crate::bindings::names_inside;
 use crate::found::{Findings, found_in};
 use crate::gathering::{finish, start};
 use crate::inside::{Inside, nothing_inside};
 use crate::lists::{add, behind, upto};
-use crate::quiet::{is_flat, is_leaf, is_parentheses, is_simple, read_simple};
+use crate::quiet::{are_silent, is_leaf};
 use element_marks::{Mark, lists_accessors, observes};
 use std::alloc::{AllocError, Global};
-use swift_base::{Listed, Span};
+use swift_base::Listed;
 use swift_lexer::Element;
 
 /// What stands inside the brackets of an element, where it is a group.
@@ -46,23 +45,19 @@ fn inside_of(alloc: Global, text: &[u8], element: &Element) -> Result<Inside, Al
     match element {
         Element::Leaf(_) => Ok(nothing_inside(alloc)),
         Element::Nest(group) => {
-            let parentheses = is_parentheses(text, element);
             let inner = group.inner.as_slice();
-            if is_simple(text, inner) {
-                return read_simple(alloc, text, inner, parentheses);
-            }
-            let mut read = start(alloc, text, inner, parentheses)?;
+            let mut read = start(alloc, text, inner)?;
             let mut rest = inner;
             'inner: for part in inner.iter() {
                 rest = behind(rest, 1);
                 if is_leaf(part) {
-                    read.add_token(alloc, text, part, rest, parentheses)?;
+                    read.add_token(alloc, text, part, rest)?;
                 } else {
                     let inside = inside_of(alloc, text, part)?;
-                    read.add(alloc, text, part, rest, inside, parentheses)?;
+                    read.add(alloc, text, part, rest, inside)?;
                 }
             }
-            finish(alloc, text, inner, read, parentheses)
+            finish(alloc, text, inner, read)
         }
     }
 }
@@ -101,7 +96,27 @@ pub fn insides_without(
     Ok(list)
 }
 
-/// The same; no list where the elements are tokens, and no more than `blanks` has.
+/// Whether nothing stands inside the elements, but for that at the place.
+fn are_blank(text: &[u8], elements: &[Element], place: Option<usize>) -> bool
+    ensures { result ≡ true → IsBlankList (length elements.now) (without place (insides text.now (forest_of elements.now))) }
+{
+    match place {
+        Some(place) => are_blank_around(text, elements, place),
+        None => are_silent(text, elements),
+    }
+}
+
+/// Whether nothing stands inside the elements before the place and behind it, where one stands there.
+fn are_blank_around(text: &[u8], elements: &[Element], place: usize) -> bool
+    ensures { result ≡ true → IsBlankList (length elements.now) (without (Some place) (insides text.now (forest_of elements.now))) }
+{
+    if elements.len() <= place {
+        return false;
+    }
+    are_silent(text, upto(elements, place)) && are_silent(text, behind(behind(elements, place), 1))
+}
+
+/// The same; no list where nothing stands inside any of the elements, of which `blanks` has as many.
 pub fn listed_insides(
     alloc: Global,
     text: &[u8],
@@ -112,7 +127,7 @@ pub fn listed_insides(
     requires { AreBlank blanks.now }
     ensures { IfOk result (λ list. listed_or blanks.now (length elements.now) list ≡ without place (insides text.now (forest_of elements.now))) }
 {
-    if place.is_none() && elements.len() <= blanks.len() && is_flat(elements) {
+    if elements.len() <= blanks.len() && are_blank(text, elements, place) {
         return Ok(None);
     }
     let list = insides_without(alloc, text, elements, place)?;
@@ -133,31 +148,10 @@ pub fn listed_or<'a>(
     }
 }
 
-/// The names of a pattern's parentheses; other groups are no pattern.
-fn names_if(
-    alloc: Global,
-    marks: &[Mark],
-    insides: &[Inside],
-    parentheses: bool,
-) -> Result<Vec<Span>, AllocError>
-    ensures { IfOk result (λ names. names.items ≡ names_if parentheses marks.now insides.now) }
-{
-    if parentheses {
-        names_inside(alloc, marks, insides)
-    } else {
-        Ok(Vec::new(alloc))
-    }
-}
-
-/// What stands inside a group, one of parentheses or another, by the marks of its list.
+/// What stands inside a group, by the marks of its list.
 #[tactic(auto, unfolding(crate::specs::Levels::read_inside))]
-pub fn read_inside(
-    alloc: Global,
-    marks: &[Mark],
-    insides: &[Inside],
-    parentheses: bool,
-) -> Result<Inside, AllocError>
-    ensures { IfOk result (λ inside. inside ≡ read_inside parentheses marks.now insides.now) }
+pub fn read_inside(alloc: Global, marks: &[Mark], insides: &[Inside]) -> Result<Inside, AllocError>
+    ensures { IfOk result (λ inside. inside ≡ read_inside marks.now insides.now) }
 {
     let Findings {
         attrs: _,
@@ -165,7 +159,6 @@ pub fn read_inside(
         locals,
     } = found_in(alloc, marks, insides)?;
     Ok(Inside {
-        names: Listed::from_vec(names_if(alloc, marks, insides, parentheses)?),
         observes: observes(marks),
         lists_accessors: lists_accessors(marks),
         uses: Listed::from_vec(uses),

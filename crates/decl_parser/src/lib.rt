@@ -16,6 +16,7 @@ mod levels;
 mod lists;
 mod parse;
 mod parts;
+mod pattern;
 mod place;
 mod quiet;
 

@@ -1,8 +1,10 @@
 // The parts of a declaration by its kind.
 
 ghost use Rattle.std.specs.Prelude.{◌≡◌, ◌++◌, ◌∷◌, [], List, IfOk, MatchResult, OnOk, Some, None, map};
+ghost use Rattle.swift_lexer.specs.Trees.{forest_of};
 ghost use Rattle.element_marks.specs.declared.mark.Mark.{Mark};
 ghost use Rattle.element_marks.specs.Answers.{Answers, Refuses};
+ghost use Rattle.decl_parser.specs.Levels.{held};
 ghost use Rattle.decl_parser.specs.Parts.{all_blocks, all_names, block_start, case_names, code, comma_start, first_name, function_name, has_members, last_block, named, names_only, of_case, of_extension, of_function, of_type, of_variable, operator_name, parts, prefixed, variable_parts, with_body, with_members};
 
 use crate::bindings::{Bound, bindings};
@@ -15,6 +17,7 @@ use element_marks::{
 };
 use std::alloc::{AllocError, Global};
 use swift_base::{Listed, Refusal, Span};
+use swift_lexer::Element;
 use swift_tree::{Binding, BlockShape, Kind};
 
 /// What a declaration has behind its starter, but for what stands inside its members' braces.
@@ -64,12 +67,14 @@ fn names_only(alloc: Global, names: Listed<Span>) -> Parts
 /// The parts of a declaration of the kind, by its starter and the elements behind that.
 pub fn parts_of(
     alloc: Global,
+    text: &[u8],
     kind: Kind,
     starter: &Mark,
     marks: &[Mark],
     insides: &[Inside],
+    elements: &[Element],
 ) -> Result<Parts, Refusal<ParseFault>>
-    ensures { Answers (λ parts. parts) result (λ outcome. outcome ≡ parts kind starter.now marks.now insides.now) }
+    ensures { Answers (λ parts. parts) result (λ outcome. outcome ≡ parts kind starter.now marks.now insides.now (held text.now (forest_of elements.now))) }
 {
     match kind {
         Kind::Import | Kind::Operator | Kind::Precedencegroup | Kind::UseItem => {
@@ -83,7 +88,7 @@ pub fn parts_of(
         Kind::Func => of_function(alloc, starter, marks, insides),
         Kind::Init | Kind::Deinit => Ok(code(alloc, false, span_of(starter), marks, insides)?),
         Kind::Subscript => Ok(code(alloc, true, span_of(starter), marks, insides)?),
-        Kind::Var | Kind::Let => of_variable(alloc, starter, marks, insides),
+        Kind::Var | Kind::Let => of_variable(alloc, text, starter, marks, insides, elements),
         Kind::Case => of_case(alloc, starter, marks),
     }
 }
@@ -261,13 +266,15 @@ fn with_body(
 
 fn of_variable(
     alloc: Global,
+    text: &[u8],
     starter: &Mark,
     marks: &[Mark],
     insides: &[Inside],
+    elements: &[Element],
 ) -> Result<Parts, Refusal<ParseFault>>
-    ensures { Answers (λ parts. parts) result (λ outcome. outcome ≡ of_variable starter.now marks.now insides.now) }
+    ensures { Answers (λ parts. parts) result (λ outcome. outcome ≡ of_variable starter.now marks.now insides.now (held text.now (forest_of elements.now))) }
 {
-    let bounds = bindings(alloc, starter.start, marks, insides)?;
+    let bounds = bindings(alloc, text, starter.start, marks, insides, elements)?;
     Ok(variable_parts(alloc, bounds)?)
 }
 

@@ -3,7 +3,7 @@ use Rattle.swift_lexer.specs.Trees.{forest_of}
 use Rattle.swift_tree.specs.Outlines.{item_of}
 use Rattle.decl_parser.specs.Parts.{prefixed}
 use Rattle.decl_parser.specs.Cut.{cut_from}
-use Rattle.decl_parser.specs.Levels.{forest_size, insides, members}
+use Rattle.decl_parser.specs.Levels.{forest_size, held, insides}
 use Rattle.decl_parser.proofs.items.+items.Given as goal
 
 abbrev pub decreases-item_at : goal.decreases-item_at
@@ -17,8 +17,8 @@ decreases-members_at l = 3 * forest_size (forest_of l.elements.now)
 
 abbrev pub invariant-items-items : goal.invariant-items-items
 invariant-items-items l =
-    prefixed (map item_of l.items.items) (cut_from l.place l.marks.items (insides l.text (forest_of l.elements)) (members l.text (forest_of l.elements)) l.at 0 (length l.marks.items - l.at))
-    ≡ cut_from l.place l.marks.items (insides l.text (forest_of l.elements)) (members l.text (forest_of l.elements)) 0 0 (length l.marks.items)
+    prefixed (map item_of l.items.items) (cut_from l.place l.marks.items (insides l.text (forest_of l.elements)) (held l.text (forest_of l.elements)) l.at 0 (length l.marks.items - l.at))
+    ≡ cut_from l.place l.marks.items (insides l.text (forest_of l.elements)) (held l.text (forest_of l.elements)) 0 0 (length l.marks.items)
 
 abbrev pub decreases-items-items : goal.decreases-items-items
 decreases-items-items l = length l.marks.items - l.at

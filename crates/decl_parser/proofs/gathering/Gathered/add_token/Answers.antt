@@ -1,4 +1,4 @@
-use Rattle.std.proofs.Common.{◌∙◌, ap, ◌∷◌, ◌++◌, [], append_assoc, refl, subst}
+use Rattle.std.proofs.Common.{◌∙◌, ap, ◌∷◌, ◌++◌, [], append_assoc, subst, sym}
 use Rattle.std.proofs.lemmas.Result.{on_ok_weaker}
 use Rattle.swift_lexer.specs.Trees.{tree_of, forest_of, cons}
 use Rattle.decl_parser.specs.Gathering.{IsGathered}
@@ -12,7 +12,7 @@ unfolding insides
 returns-in-Each c = λ elements read.
     let text = c.args.text.now in
     let more = insides text (forest_of c.args.others.now) in
-    let kept = subst (λ g. IsGathered text c.args.parentheses g (cons (tree_of c.args.element.now) (forest_of c.args.others.now)) elements) c.in-Each.is read in
+    let kept = subst (λ g. IsGathered text g (cons (tree_of c.args.element.now) (forest_of c.args.others.now)) elements) c.in-Each.is read in
     on_ok_weaker c.add.result (λ added.
     ap (λ l. l ++ more) added
     ∙ append_assoc c.in-Each.list.items (c.nothing_inside.result ∷ []) more
@@ -22,9 +22,7 @@ returns-in-Each c = λ elements read.
 pub returns-in-Quiet : goal.returns-in-Quiet
 returns-in-Quiet c = λ elements read.
     let text = c.args.text.now in
-    let old = c.in-Quiet.told in
     let tree = tree_of c.args.element.now in
     let others = forest_of c.args.others.now in
-    let told = subst (λ g. IsGathered text c.args.parentheses g (cons tree others) elements) c.in-Quiet.is read in
-    on_ok_weaker c.tell_names.result (λ names.
-    told_token text c.args.parentheses old (record { names = c.tell_names.new.names; uses = old.uses; locals = old.locals }) tree others elements c.requires told names refl refl) c.tell_names.ensures
+    let told = subst (λ g. IsGathered text g (cons tree others) elements) c.in-Quiet.is read in
+    subst (λ g. IsGathered text g others elements) (sym c.in-Quiet.is) (told_token text c.in-Quiet.field-0 tree others elements c.requires told)
