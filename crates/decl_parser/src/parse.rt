@@ -1,7 +1,8 @@
 // A text into its outline.
 
-ghost use Rattle.std.specs.Prelude.{◌≡◌, ◌≤◌, ◌∷◌, [], IfOk, IfSome, Ok, length};
+ghost use Rattle.std.specs.Prelude.{◌≡◌, ◌≤◌, ◌∷◌, [], IfOk, IfSome, List, Ok, false, length};
 ghost use Rattle.swift_lexer.specs.Tokens.{IsLexed};
+ghost use Rattle.swift_lexer.specs.declared.token.Token.{Token};
 ghost use Rattle.swift_lexer.specs.Trees.{forest_of, forest_tokens, tree_of, tree_tokens};
 ghost use Rattle.swift_tree.specs.Outlines.{outline_of};
 ghost use Rattle.swift_tree.specs.declared.outline.Shape.TheVariants as shape;
@@ -11,7 +12,8 @@ ghost use Rattle.decl_parser.specs.Outline.{IsOutline, allowed, elements_of, nam
 use crate::fault::{ParseFault, ParseKind, fault, of_grouping, of_lexing};
 use crate::fragments::by_shape;
 use crate::lists::behind;
-use element_marks::{is_reserved, part};
+use element_marks::{RESERVED, is_reserved, part};
+use memchr::memmem;
 use std::alloc::Global;
 use swift_base::Refusal;
 use swift_lexer::{
@@ -154,10 +156,23 @@ fn allowed(text: &[u8], shape: Shape, elements: &[Element]) -> Result<(), Refusa
 fn unreserved(text: &[u8], elements: &[Element]) -> Result<(), Refusal<ParseFault>>
     ensures { Answers (λ fine. fine) result (λ outcome. outcome ≡ unreserved text.now (forest_tokens (forest_of elements.now))) }
 {
+    if !holds_reserved(text) {
+        return Ok(());
+    }
     'elements: for element in elements {
         unreserved_in(text, element)?;
     }
     Ok(())
+}
+
+/// Whether the bytes that such words begin with stand anywhere in the text.
+fn holds_reserved(text: &[u8]) -> bool
+    ensures { result ≡ false → (tokens : List Token) → unreserved text.now tokens ≡ Ok tt }
+{
+    match memmem::find(text, RESERVED) {
+        Some(_) => true,
+        None => false,
+    }
 }
 
 /// The same of one element.

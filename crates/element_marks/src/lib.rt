@@ -36,7 +36,7 @@ pub use sorts::{
 };
 pub use spans::{behind_first, between, name_of, span_of, whole};
 pub use uses::use_length;
-pub use words::{Keyword, Starter, is_reserved, is_underscore};
+pub use words::{Keyword, RESERVED, Starter, is_reserved, is_underscore};
 
 #[cfg(test)]
 mod tests;
