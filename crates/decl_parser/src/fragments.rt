@@ -72,6 +72,7 @@ fn bare(alloc: Global, text: &[u8], shape: Shape, inside: Span) -> Result<Outlin
         inside,
         uses: Listed::from_vec(Vec::new(alloc)),
         locals: Listed::from_vec(Vec::new(alloc)),
+        groups: Vec::new(alloc),
     })
 }
 

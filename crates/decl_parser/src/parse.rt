@@ -27,7 +27,8 @@ pub const LONGEST_SOURCE: usize = 4_194_304;
 
 /// The outline of a source file, or its first fault.
 pub fn parse_file(alloc: Global, text: &[u8]) -> Result<Outline, Refusal<ParseFault>>
-    ensures { Answers outline_of result (IsOutline text.now shape.File) }
+    ensures outline { Answers outline_of result (IsOutline text.now shape.File) }
+    ensures groups { IfOk result (λ outline. Ok (forest_of outline.groups.items) ≡ elements_of text.now) }
 {
     parse(alloc, text, Shape::File)
 }
@@ -35,39 +36,46 @@ pub fn parse_file(alloc: Global, text: &[u8]) -> Result<Outline, Refusal<ParseFa
 /// The outline of declarations in any place, or their first fault; the names that only macros make are names like
 /// others there.
 pub fn parse_items(alloc: Global, text: &[u8]) -> Result<Outline, Refusal<ParseFault>>
-    ensures { Answers outline_of result (IsOutline text.now shape.Items) }
+    ensures outline { Answers outline_of result (IsOutline text.now shape.Items) }
+    ensures groups { IfOk result (λ outline. Ok (forest_of outline.groups.items) ≡ elements_of text.now) }
 {
     parse(alloc, text, Shape::Items)
 }
 
 /// The outline of attributes and nothing else, or their first fault.
 pub fn parse_attributes(alloc: Global, text: &[u8]) -> Result<Outline, Refusal<ParseFault>>
-    ensures { Answers outline_of result (IsOutline text.now shape.Attributes) }
+    ensures outline { Answers outline_of result (IsOutline text.now shape.Attributes) }
+    ensures groups { IfOk result (λ outline. Ok (forest_of outline.groups.items) ≡ elements_of text.now) }
 {
     parse(alloc, text, Shape::Attributes)
 }
 
 /// The outline of accessors, or of one pair of braces around them, or their first fault.
 pub fn parse_accessors(alloc: Global, text: &[u8]) -> Result<Outline, Refusal<ParseFault>>
-    ensures { Answers outline_of result (IsOutline text.now shape.Accessors) }
+    ensures outline { Answers outline_of result (IsOutline text.now shape.Accessors) }
+    ensures groups { IfOk result (λ outline. Ok (forest_of outline.groups.items) ≡ elements_of text.now) }
 {
     parse(alloc, text, Shape::Accessors)
 }
 
 /// The outline of an expression, or its first fault.
 pub fn parse_expression(alloc: Global, text: &[u8]) -> Result<Outline, Refusal<ParseFault>>
-    ensures { Answers outline_of result (IsOutline text.now shape.Expression) }
+    ensures outline { Answers outline_of result (IsOutline text.now shape.Expression) }
+    ensures groups { IfOk result (λ outline. Ok (forest_of outline.groups.items) ≡ elements_of text.now) }
 {
     parse(alloc, text, Shape::Expression)
 }
 
 #[tactic(auto, unfolding(crate::specs::Outline::outline))]
 fn parse(alloc: Global, text: &[u8], shape: Shape) -> Result<Outline, Refusal<ParseFault>>
-    ensures { Answers outline_of result (IsOutline text.now shape) }
+    ensures outline { Answers outline_of result (IsOutline text.now shape) }
+    ensures groups { IfOk result (λ outline. Ok (forest_of outline.groups.items) ≡ elements_of text.now) }
 {
     let elements = read_all(alloc, text)?;
     allowed(text, shape, &elements)?;
-    by_shape(alloc, text, shape, &elements)
+    let mut outline = by_shape(alloc, text, shape, &elements)?;
+    outline.groups = elements;
+    Ok(outline)
 }
 
 /// The elements of a text, or the first fault of its length, its tokens, and then its brackets.

@@ -22,10 +22,11 @@ fn words(rt: &HostRuntime) -> Result<Vec<String>, AllocError> {
     Ok(words)
 }
 
-// The process ends, and its memory with it: the declarations don't have to be taken apart.
+// The process ends, and its memory with it: what was read doesn't have to be taken apart.
 fn leave(source: Option<Outline>) {
-    if let Some(Outline { items, .. }) = source {
+    if let Some(Outline { items, groups, .. }) = source {
         items.leak();
+        groups.leak();
     }
 }
 

@@ -25,9 +25,10 @@ use Rattle.decl_parser.specs.Insides.{first_inside, nothing_inside}
 use Rattle.decl_parser.specs.Attributes.{args_place, args_uses, attr_of, use_of}
 use Rattle.decl_parser.specs.Found.{Found, Step, found_step, found_from, found_in, local_attributes}
 use Rattle.decl_parser.specs.Parts.{parts}
-use Rattle.decl_parser.specs.Cut.{MembersRead, all_ends, assembled, beginning, block_of, count_of, cut_from, first_members, head_of, item_at, items_in, kind_of, members_at, members_place, one_item, whole_item, without}
+use Rattle.decl_parser.specs.Cut.{all_ends, assembled, beginning, block_of, count_of, cut_from, head_of, item_at, items_in, kind_of, members_at, members_place, one_item, whole_item, without}
 use Rattle.decl_parser.specs.Attributes.{span_from}
-use Rattle.decl_parser.specs.Levels.{read_inside, inside_of, insides, members_of, members, items_of_list}
+use Rattle.decl_parser.specs.Held.{MembersRead, Held, first_held}
+use Rattle.decl_parser.specs.Levels.{read_inside, inside_of, insides, held_of, held, items_of_list}
 use Rattle.decl_parser.proofs.Outcomes.{OkHolds, ok_then, ok_if, ok_at}
 use Rattle.expansion_model.proofs.Heads.{IsUseReadable}
 use Rattle.expansion_model.proofs.Heads.{heads, heads_from, heads_in, uses_of, all_uses}
@@ -62,6 +63,9 @@ ItemsReadable text items = AreHeadsReadable text (heads (items_from items))
 
 abbrev pub MembersReadable : List ℕ → MembersRead → Type 0
 MembersReadable text read = OkHolds (ItemsReadable text) read
+
+abbrev HeldReadable : List ℕ → Held → Type 0
+HeldReadable text held = MembersReadable text held.members
 
 -- a use begins with a `#` word
 abbrev BeginsUse : ℕ → List Mark → Type 0
@@ -163,13 +167,13 @@ module _ (text : List ℕ) where
   assembled_readable span next kind read found inner finds each =
       (each_append (IsUseReadable text) (flat_map (λ attribute. attribute.uses) found.attrs) found.uses (attrs_readable text found.attrs finds.0) finds.1, block_readable read.block inner each)
 
-  first_members_readable : (members : List MembersRead) → AllByRecursion (MembersReadable text) members → MembersReadable text (first_members members)
+  first_members_readable : (held : List Held) → AllByRecursion (HeldReadable text) held → MembersReadable text (first_held held).members
   first_members_readable [] each = tt
-  first_members_readable (members ∷ others) each = each.0
+  first_members_readable (held ∷ others) each = each.0
 
-  members_at_readable : (at : Option ℕ) (members : List MembersRead) → AllByRecursion (MembersReadable text) members → MembersReadable text (members_at at members)
-  members_at_readable None members each = tt
-  members_at_readable (Some at) members each = first_members_readable (drop at members) (each_drop (MembersReadable text) at members each)
+  members_at_readable : (at : Option ℕ) (held : List Held) → AllByRecursion (HeldReadable text) held → MembersReadable text (members_at at held)
+  members_at_readable None held each = tt
+  members_at_readable (Some at) held each = first_members_readable (drop at held) (each_drop (HeldReadable text) at held each)
 
   without_readable : (at : Option ℕ) (insides : List Inside) → AllByRecursion (IsInsideReadable text) insides → AllByRecursion (IsInsideReadable text) (without at insides)
   without_readable None insides each = each
@@ -178,65 +182,65 @@ module _ (text : List ℕ) where
       each_append P (take at insides) (nothing_inside ∷ drop 1 (drop at insides)) (each_take P at insides each) (tt, each_drop P 1 (drop at insides) (each_drop P at insides each))
 
 module _ (text : List ℕ) (utf8 : IsUtf8 text) (of_place : Place) where
-  item_readable : (list : List Mark) (from : ℕ) (next : List Mark) (insides : List Inside) (members : List MembersRead) → AllByRecursion (IsBounded text) list → AllByRecursion (IsInsideReadable text) insides → AllByRecursion (MembersReadable text) members
-      → OkHolds (ItemReadable text) (item_at of_place list from next insides members)
+  item_readable : (list : List Mark) (from : ℕ) (next : List Mark) (insides : List Inside) (held : List Held) → AllByRecursion (IsBounded text) list → AllByRecursion (IsInsideReadable text) insides → AllByRecursion (HeldReadable text) held
+      → OkHolds (ItemReadable text) (item_at of_place list from next insides held)
   unfolding item_at whole_item
-  item_readable list from next insides members bounded each each_member =
+  item_readable list from next insides held bounded each each_member =
       let own = drop from list in
       let head = head_of own in
       let P : ItemSeen → Type 0 = ItemReadable text in
       ok_then P (beginning of_place own) _ (λ starter begun.
       let braces = members_place starter head own in
       let outside = without braces insides in
-      ok_then P (parts (kind_of starter) starter (drop head own) (drop head outside)) _ (λ read is.
-      ok_then P (members_at braces members) _ (λ inner found.
+      ok_then P (parts (kind_of starter) starter (drop head own) (drop head outside) (drop head held)) _ (λ read is.
+      ok_then P (members_at braces held) _ (λ inner found.
       ok_then P (all_ends read.body starter list from) _ (λ ended ends.
       assembled_readable text (span_from own) next (kind_of starter) read (found_from read.blocks (from + head) list from 0 (length list - from) outside) inner
       (found_readable text utf8 read.blocks (from + head) list from 0 (length list - from) outside bounded (without_readable text braces insides each))
-      (ok_at (ItemsReadable text) (members_at braces members) inner found (members_at_readable text braces members each_member))))))
+      (ok_at (ItemsReadable text) (members_at braces held) inner found (members_at_readable text braces held each_member))))))
 
-  module _ (marks : List Mark) (insides : List Inside) (members : List MembersRead) (bounded : AllByRecursion (IsBounded text) marks) (each : AllByRecursion (IsInsideReadable text) insides) (each_member : AllByRecursion (MembersReadable text) members) where
-    one_readable : (at : ℕ) → OkHolds (ItemReadable text) (one_item of_place marks insides members at)
+  module _ (marks : List Mark) (insides : List Inside) (held : List Held) (bounded : AllByRecursion (IsBounded text) marks) (each : AllByRecursion (IsInsideReadable text) insides) (each_member : AllByRecursion (HeldReadable text) held) where
+    one_readable : (at : ℕ) → OkHolds (ItemReadable text) (one_item of_place marks insides held at)
     one_readable at =
         let count = count_of (drop at marks) in
-        item_readable (take (at + count) marks) at (drop (at + count) marks) (take count (drop at insides)) (take count (drop at members)) (each_take (IsBounded text) (at + count) marks bounded)
+        item_readable (take (at + count) marks) at (drop (at + count) marks) (take count (drop at insides)) (take count (drop at held)) (each_take (IsBounded text) (at + count) marks bounded)
         (each_take (IsInsideReadable text) count (drop at insides) (each_drop (IsInsideReadable text) at insides each))
-        (each_take (MembersReadable text) count (drop at members) (each_drop (MembersReadable text) at members each_member))
+        (each_take (HeldReadable text) count (drop at held) (each_drop (HeldReadable text) at held each_member))
 
-    cut_readable : (at inside left : ℕ) → MembersReadable text (cut_from of_place marks insides members at inside left)
+    cut_readable : (at inside left : ℕ) → MembersReadable text (cut_from of_place marks insides held at inside left)
     cut_readable at inside zero = tt
     cut_readable at (suc inside) (suc left) = cut_readable (suc at) inside left
     cut_readable at zero (suc left) =
         let P : List ItemSeen → Type 0 = ItemsReadable text in
-        let rest = cut_from of_place marks insides members (suc at) (count_of (drop at marks) - 1) left in
+        let rest = cut_from of_place marks insides held (suc at) (count_of (drop at marks) - 1) left in
         ok_if P (first_is is_semicolon (drop at marks)) _ _ (λ is. cut_readable (suc at) 0 left) (λ is.
         ok_if P (head_of (drop at marks) == 0) _ _ (λ no_head. tt) (λ some_head.
-        ok_then P (one_item of_place marks insides members at) _ (λ one read.
+        ok_then P (one_item of_place marks insides held at) _ (λ one read.
         ok_then P rest _ (λ others are.
-        each_append (IsHeadReadable text) (heads_from one) (heads (items_from others)) (ok_at (ItemReadable text) (one_item of_place marks insides members at) one read (one_readable at))
+        each_append (IsHeadReadable text) (heads_from one) (heads (items_from others)) (ok_at (ItemReadable text) (one_item of_place marks insides held at) one read (one_readable at))
         (ok_at P rest others are (cut_readable (suc at) (count_of (drop at marks) - 1) left))))))
 
-    items_readable : MembersReadable text (items_in of_place marks insides members)
+    items_readable : MembersReadable text (items_in of_place marks insides held)
     unfolding items_in
     items_readable = cut_readable 0 0 (length marks)
 
 module _ (text : List ℕ) (utf8 : IsUtf8 text) where
   mutual
-    unfolding members_of members
+    unfolding held_of held
 
-    members_readable : (tree : Tree) → IsTreePlaced text tree → MembersReadable text (members_of text tree)
-    members_readable (leaf token) placed = tt
-    members_readable (nest left inner right) placed =
-        items_readable text utf8 place.Members (level text inner) (insides text inner) (members text inner) (level_bounded text utf8 inner placed.1) (insides_readable text utf8 inner placed.1) (all_members_readable inner placed.1)
+    held_readable : (tree : Tree) → IsTreePlaced text tree → HeldReadable text (held_of text tree)
+    held_readable (leaf token) placed = tt
+    held_readable (nest left inner right) placed =
+        items_readable text utf8 place.Members (level text inner) (insides text inner) (held text inner) (level_bounded text utf8 inner placed.1) (insides_readable text utf8 inner placed.1) (all_held_readable inner placed.1)
 
-    all_members_readable : (forest : Forest) → IsForestPlaced text forest → AllByRecursion (MembersReadable text) (members text forest)
-    all_members_readable none placed = tt
-    all_members_readable (cons tree forest) placed = (members_readable tree placed.0, all_members_readable forest placed.1)
+    all_held_readable : (forest : Forest) → IsForestPlaced text forest → AllByRecursion (HeldReadable text) (held text forest)
+    all_held_readable none placed = tt
+    all_held_readable (cons tree forest) placed = (held_readable tree placed.0, all_held_readable forest placed.1)
 
   pub list_readable : (of_place : Place) (forest : Forest) → IsForestPlaced text forest → MembersReadable text (items_of_list of_place text forest)
   unfolding items_of_list
   list_readable of_place forest placed =
-      items_readable text utf8 of_place (level text forest) (insides text forest) (members text forest) (level_bounded text utf8 forest placed) (insides_readable text utf8 forest placed) (all_members_readable forest placed)
+      items_readable text utf8 of_place (level text forest) (insides text forest) (held text forest) (level_bounded text utf8 forest placed) (insides_readable text utf8 forest placed) (all_held_readable forest placed)
 
 -- an expression's own uses
 pub uses_readable : (text : List ℕ) → IsUtf8 text → (forest : Forest) → IsForestPlaced text forest → AreReadable text (found_in (level text forest) (insides text forest)).uses

@@ -76,6 +76,6 @@ pub record OutlineSeen : Type 0 where
   pub uses : List MacroUse
   pub locals : List Attr
 
--- what an outline stands for
+-- what an outline stands for, apart from the groups that it was read from
 abbrev pub outline_of : Outline → OutlineSeen
 outline_of o = record { text = o.text; shape = o.shape; items = items_of o.items.items; attrs = o.attrs; accessors = o.accessors; inside = o.inside; uses = o.uses; locals = o.locals }

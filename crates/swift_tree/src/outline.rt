@@ -5,6 +5,7 @@ ghost use Rattle.std.specs.Prelude.{◌≡◌, IfOk};
 use crate::item::{Attr, Item, MacroUse};
 use std::alloc::{AllocError, Global};
 use swift_base::{Listed, Span, Text};
+use swift_lexer::Element;
 
 /// As what a text was read.
 #[derive(Clone, Copy, PartialEq, Eq, Debug)]
@@ -24,6 +25,7 @@ pub enum Shape {
 /// `accessors` are the words that begin the accessors of the shape Accessors, as `get`; `uses` and `locals` are
 /// those of the shapes Accessors and Expression. `inside` is the part that is spliced: from the first to the last
 /// token of attributes and of an expression, what stands between the braces around accessors, else the whole text.
+/// `groups` are the bracket groups of the text, from which the rest was read.
 #[derive(Debug, Drop)]
 pub struct Outline {
     pub text: Text,
@@ -34,6 +36,7 @@ pub struct Outline {
     pub inside: Span,
     pub uses: Listed<MacroUse>,
     pub locals: Listed<Attr>,
+    pub groups: Vec<Element>,
 }
 
 impl Outline {
