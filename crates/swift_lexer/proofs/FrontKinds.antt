@@ -91,13 +91,13 @@ from_Mark c = if is_mark c then front.Mark else from_Dot c
 from_Mark-kind : (c : ℕ) → IsOfKind (from_Mark c) c
 from_Mark-kind c = elim (is_mark c) as (λ b. (is_mark c) ≡ b → IsOfKind (if b then front.Mark else from_Dot c) c) [ true ↦ λ is. is | false ↦ λ is_not. from_Dot-kind c ] refl
 
-abbrev from_Digit : ℕ → Front
+abbrev pub from_Digit : ℕ → Front
 from_Digit c = if is_ascii_digit c then front.Digit else from_Mark c
 
 from_Digit-kind : (c : ℕ) → IsOfKind (from_Digit c) c
 from_Digit-kind c = elim (is_ascii_digit c) as (λ b. (is_ascii_digit c) ≡ b → IsOfKind (if b then front.Digit else from_Mark c) c) [ true ↦ λ is. is | false ↦ λ is_not. from_Mark-kind c ] refl
 
-abbrev from_Blank : ℕ → Front
+abbrev pub from_Blank : ℕ → Front
 from_Blank c = if is_blank c then front.Blank else from_Digit c
 
 from_Blank-kind : (c : ℕ) → IsOfKind (from_Blank c) c

@@ -1,5 +1,7 @@
 pub mod Answering
+mod AsciiFronts
 pub mod Begun
+mod Blanks
 pub mod Characters
 pub mod Closing
 pub mod Comments

@@ -6,11 +6,13 @@ ghost use Rattle.swift_lexer.specs.Openings.{Takes};
 ghost use Rattle.swift_lexer.specs.Reads.{ReadsAs, ReadsFrom};
 ghost use Rattle.swift_lexer.specs.Trees.{forest_of};
 
+use crate::chars::Run;
 use crate::element::Element;
 use crate::found::{Found, at_front};
 use crate::grouping::{Grouping, finish, nothing_open, take};
 use crate::lexing::{LONGEST_TEXT, after_mark, token_between};
 use crate::strings::{after_string, place};
+use crate::texts::after_run;
 use crate::token::Class;
 use std::alloc::Global;
 use std::str;
@@ -42,7 +44,7 @@ fn read_from(alloc: Global, bytes: &[u8], total: usize, text: &str) -> Option<Ve
                 let Ok(()) = take(alloc, &mut grouping, token, bytes) else {
                     return None;
                 };
-                rest = after;
+                rest = after_run(after, Run::Blank);
                 trivia = token.end;
             }
             Found::Opens(quotes) => {
@@ -54,7 +56,7 @@ fn read_from(alloc: Global, bytes: &[u8], total: usize, text: &str) -> Option<Ve
                 let Ok(()) = take(alloc, &mut grouping, token, bytes) else {
                     return None;
                 };
-                rest = behind;
+                rest = after_run(behind, Run::Blank);
                 trivia = token.end;
             }
             Found::Fails(_) => return None,
