@@ -16,7 +16,7 @@ use Rattle.decl_parser.specs.declared.inside.Inside.{Inside}
 use Rattle.decl_parser.specs.Insides.{first_inside}
 use Rattle.decl_parser.specs.Attributes.{span_from, use_of, attr_of, attribute_name, args_place, args_span, args_uses}
 use Rattle.decl_parser.specs.Found.{Found, Step, local_attributes, found_step, found_from, found_in}
-use Rattle.decl_parser.specs.Nesting.{Between, MayLie, PartsLie, UseLies, UsesLie, AttrLies, AttrsLie, LocalsLie, Apart, AllApart}
+use Rattle.decl_parser.specs.Nesting.{Between, MayLie, UseLies, UsesLie, AttrLies, AttrsLie, LocalsLie, Apart, AllApart}
 use Rattle.decl_parser.proofs.Wider.{between_wider, may_wider, uses_wider, uses_join, attrs_join, locals_wider, locals_join}
 use Rattle.decl_parser.proofs.Ordered.{InOrder, Beside, HasAt, has_at, bounds, name_lies, end_grows, end_more, end_at, lies_take, lies_behind, beside_drop}
 

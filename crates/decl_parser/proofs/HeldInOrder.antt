@@ -1,5 +1,5 @@
 -- What the brackets of an element hold lies between them.
-use Rattle.std.proofs.Common.{◌≡◌, arith, ℕ, ◌+◌, ◌-◌, ◌≤◌, List, [], ◌∷◌}
+use Rattle.std.proofs.Common.{arith, ℕ, ◌+◌, ◌-◌, ◌≤◌, List, [], ◌∷◌}
 use Rattle.swift_tree.specs.Outlines.{items_from}
 use Rattle.element_marks.specs.declared.mark.Mark.{Mark}
 use Rattle.decl_parser.specs.Held.{Held, first_held}

@@ -20,7 +20,6 @@ use Rattle.decl_parser.specs.declared.place.Place.{Place}
 use Rattle.decl_parser.specs.declared.place.Place.TheVariants as place
 use Rattle.decl_parser.specs.Bindings.{names_here, names_inside, names_of}
 use Rattle.decl_parser.specs.Found.{found_in}
-use Rattle.decl_parser.specs.declared.inside.Inside.{Inside}
 use Rattle.decl_parser.specs.Levels.{read_inside, inside_of, insides, held_of, held, items_of_list}
 use Rattle.decl_parser.specs.Fragments.{all_of, by_shape, attributes_from, accessor_marks, accessors_inside, first_between, not_an_accessor, one_group, expression}
 use Rattle.decl_parser.specs.Nesting.{PartsLie, AttrsLie, ItemsLie, OutlineLies}

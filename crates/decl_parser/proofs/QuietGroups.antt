@@ -2,9 +2,9 @@
 use Rattle.std.proofs.Common.{◌≡◌, refl, ℕ, zero, suc, ◌+◌, ◌≤◌, ◌∙◌, ap, sym, subst, arith, drop-drop, List, [], ◌∷◌, ◌++◌, length, map, drop, take, nat_lt, Bool, true, false, ◌||◌, ◌&&◌, not, if◌then◌else◌}
 use Rattle.std.specs.List.{flat_map, list_any}
 use Rattle.swift_lexer.specs.declared.element.Element.{Element}
-use Rattle.swift_lexer.specs.Trees.{Tree, Forest, forest_of, tree_of, leaf, nest, none, cons}
+use Rattle.swift_lexer.specs.Trees.{Tree, Forest, forest_of, leaf, nest, none, cons}
 use Rattle.element_marks.specs.declared.mark.Mark.{Mark}
-use Rattle.element_marks.specs.Accessors.{lists_accessors, observes_from}
+use Rattle.element_marks.specs.Accessors.{observes_from}
 use Rattle.element_marks.specs.Heads.{attribute_length, by_length}
 use Rattle.element_marks.specs.Sorts.{is_at, is_use}
 use Rattle.element_marks.specs.Uses.{use_length}
@@ -14,7 +14,7 @@ use Rattle.element_marks.proofs.Quieter.{Quiet, bare, bare_level, quiet_accessor
 use Rattle.decl_parser.specs.declared.inside.Inside.{Inside}
 use Rattle.decl_parser.specs.Attributes.{attr_of}
 use Rattle.decl_parser.specs.Found.{all_within, found_from, found_in, found_step, joined, nothing, within}
-use Rattle.decl_parser.specs.Insides.{AreBlank, first_inside, nothing_inside}
+use Rattle.decl_parser.specs.Insides.{AreBlank, nothing_inside}
 use Rattle.decl_parser.specs.Levels.{are_silent, inside_of, insides, is_leaf, is_silent, read_inside}
 use Rattle.decl_parser.proofs.FoundWalks.{other_step}
 

@@ -20,6 +20,7 @@ pub fn part(text: &[u8], start: u32, end: u32) -> &[u8]
 }
 
 /// An element without its neighbours.
+#[inline(always)]
 pub fn mark_of(text: &[u8], element: &Element) -> Mark
     ensures { result ≡ mark_of text.now (tree_of element.now) }
 {
@@ -29,6 +30,7 @@ pub fn mark_of(text: &[u8], element: &Element) -> Mark
     }
 }
 
+#[inline(always)]
 #[tactic(auto, unfolding(crate::specs::Marks::mark_between))]
 fn mark_between(text: &[u8], token: Token, end: u32) -> Mark
     ensures { result ≡ mark_between text.now token end }

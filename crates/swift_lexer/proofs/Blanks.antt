@@ -3,7 +3,6 @@ use Rattle.std.proofs.Common.{◌≡◌, ◌∙◌, refl, ap, sym, subst, arith,
 use Rattle.std.specs.Char.{is_ascii_alphabetic}
 use Rattle.std.specs.List.{AllByRecursion, list_any}
 use Rattle.unicode_ident.proofs.IdentLemmas.{is_xid_start-ascii}
-use Rattle.swift_lexer.specs.declared.chars.Front.{Front}
 use Rattle.swift_lexer.specs.declared.chars.Front.TheVariants as front
 use Rattle.swift_lexer.specs.declared.chars.TheConstants.{BLANKS, UNDERSCORE, DOLLAR}
 use Rattle.swift_lexer.specs.declared.found.Found.TheVariants.{Trivia}

@@ -34,6 +34,7 @@ pub enum Found {
 }
 
 /// What stands at the front of the text, and what stands behind it; for a fault, where it stands.
+#[inline(always)]
 #[tactic(auto, unfolding(crate::specs::Fronts::at_front))]
 pub fn at_front(text: &str) -> Option<(Found, &str)>
     ensures { option_map (λ (what, rest). (what, chars rest.now)) result ≡ at_front (chars text.now) }
@@ -42,6 +43,7 @@ pub fn at_front(text: &str) -> Option<(Found, &str)>
     Some(by_front(front_of(c), text, rest))
 }
 
+#[inline(always)]
 fn by_front<'a>(front: Front, text: &'a str, rest: &'a str) -> (Found, &'a str)
     ensures { (result.0, chars result.1.now) ≡ by_front front (chars text.now) (chars rest.now) }
 {
@@ -123,6 +125,7 @@ fn dot(rest: &str) -> (Found, &str)
 }
 
 /// A comment or an operator, behind a `/`.
+#[inline(never)]
 #[tactic(auto, unfolding(crate::specs::Fronts::slash))]
 fn slash<'a>(text: &'a str, rest: &'a str) -> (Found, &'a str)
     ensures { (result.0, chars result.1.now) ≡ slash (chars text.now) (chars rest.now) }
@@ -140,6 +143,7 @@ fn slash<'a>(text: &'a str, rest: &'a str) -> (Found, &'a str)
 }
 
 /// A string whose first quote, behind so many `#`, stands before the text.
+#[inline(never)]
 #[tactic(auto, unfolding(crate::specs::Fronts::opening))]
 fn opening(pounds: usize, text: &str) -> (Found, &str)
     ensures { (result.0, chars result.1.now) ≡ opening pounds (chars text.now) }
@@ -163,6 +167,7 @@ fn opening(pounds: usize, text: &str) -> (Found, &str)
 }
 
 /// A name between backquotes, behind the first one.
+#[inline(never)]
 #[tactic(auto, unfolding(crate::specs::Fronts::quoted))]
 fn quoted<'a>(text: &'a str, rest: &'a str) -> (Found, &'a str)
     ensures { (result.0, chars result.1.now) ≡ quoted (chars text.now) (chars rest.now) }
@@ -176,6 +181,7 @@ fn quoted<'a>(text: &'a str, rest: &'a str) -> (Found, &'a str)
 }
 
 /// What begins with so many `#`, behind them.
+#[inline(never)]
 #[tactic(auto, unfolding(crate::specs::Fronts::pound))]
 fn pound<'a>(text: &'a str, count: usize, rest: &'a str) -> (Found, &'a str)
     ensures { (result.0, chars result.1.now) ≡ pound (chars text.now) count (chars rest.now) }

@@ -62,6 +62,7 @@ pub fn nothing_open(alloc: Global) -> Grouping
 }
 
 /// Puts the token where it belongs.
+#[inline(always)]
 pub fn take(
     alloc: Global,
     grouping: &mut Grouping,
@@ -80,6 +81,7 @@ pub fn take(
     }
 }
 
+#[inline(never)]
 fn open_group(
     alloc: Global,
     grouping: &mut Grouping,
@@ -111,6 +113,7 @@ fn empty_list(alloc: Global, spares: &mut Vec<Vec<Element>>) -> Vec<Element>
     }
 }
 
+#[inline(never)]
 fn close_group(
     alloc: Global,
     grouping: &mut Grouping,

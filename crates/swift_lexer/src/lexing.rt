@@ -75,6 +75,7 @@ fn lex_from(alloc: Global, total: usize, text: &str) -> Result<Vec<Token>, Refus
     Ok(tokens)
 }
 
+#[inline(always)]
 pub fn token_between(total: usize, trivia: u32, class: Class, text: &str, rest: &str) -> Token
     requires { total < 2 ^ 32 }
     ensures { result ≡ token_between total trivia class (chars text.now) (chars rest.now) }

@@ -1,4 +1,4 @@
-use Rattle.std.proofs.Common.{◌≡◌, ◌∙◌, ◌++◌, ap, sym, subst, append-nil, false, IfOk}
+use Rattle.std.proofs.Common.{◌≡◌, ◌∙◌, ap, sym, subst, append-nil, false, IfOk}
 use Rattle.swift_lexer.specs.Trees.{forest_of, none}
 use Rattle.element_marks.specs.Accessors.{lists_accessors, observes_from}
 use Rattle.element_marks.specs.Levels.{level}

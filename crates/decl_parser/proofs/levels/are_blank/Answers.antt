@@ -1,4 +1,4 @@
-use Rattle.std.proofs.Common.{◌≡◌, ◌∙◌, ap, sym, subst, refl, true, None, length}
+use Rattle.std.proofs.Common.{◌∙◌, sym, subst, length}
 use Rattle.swift_lexer.specs.Trees.{forest_of}
 use Rattle.decl_parser.specs.Cut.{without}
 use Rattle.decl_parser.specs.Insides.{IsBlankList}

@@ -1,4 +1,4 @@
-use Rattle.std.proofs.Common.{◌≡◌, ◌∙◌, ap, sym, subst, refl, arith, true, drop, take, length}
+use Rattle.std.proofs.Common.{◌∙◌, ap, sym, arith, drop}
 use Rattle.swift_lexer.specs.Trees.{forest_of}
 use Rattle.decl_parser.specs.Levels.{are_silent}
 use Rattle.decl_parser.proofs.Grouped.{blank_without}

@@ -1,7 +1,6 @@
-use Rattle.std.proofs.Common.{◌≡◌, ◌∙◌, ◌+◌, ◌++◌, ap, sym, subst, refl, append_assoc, append-nil, drop, drop-drop}
-use Rattle.std.specs.Result.{OnOk}
-use Rattle.swift_lexer.specs.Trees.{tree_of, forest_of, cons}
-use Rattle.swift_lexer.proofs.Trees.{forest_of-drop, tree_of-leaf, tree_of-nest}
+use Rattle.std.proofs.Common.{◌≡◌, ◌∙◌, ◌++◌, ap, sym, refl, append-nil}
+use Rattle.swift_lexer.specs.Trees.{tree_of, forest_of}
+use Rattle.swift_lexer.proofs.Trees.{tree_of-leaf, tree_of-nest}
 use Rattle.decl_parser.specs.Bindings.{names_inside, names_of}
 use Rattle.decl_parser.proofs.pattern.+add_names_inside.Goals as goal
 

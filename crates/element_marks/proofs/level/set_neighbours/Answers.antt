@@ -1,7 +1,6 @@
-use Rattle.std.proofs.Common.{◌∙◌, sym, subst, ap, arith, length, None}
-use Rattle.element_marks.specs.Heads.{with_angles, with_joins, with_modifiers}
+use Rattle.std.proofs.Common.{sym, subst, ap, arith, length, None}
 use Rattle.element_marks.specs.Passes.{AnglesUnset}
-use Rattle.element_marks.proofs.AnglePart.{joins_unset, length_angles, length_joins, length_modifiers}
+use Rattle.element_marks.proofs.AnglePart.{joins_unset, length_joins}
 use Rattle.element_marks.proofs.level.set_neighbours.Goals as goal
 
 pub set_angles-requires-clause-unset : goal.set_angles-requires-clause-unset
