@@ -1,9 +1,10 @@
 -- A list of elements cut into declarations: this project's own, after The Swift Programming Language, Declarations.
-use Rattle.std.specs.Prelude.{ℕ, zero, suc, ◌+◌, ◌-◌, ◌==◌, min, slice_get, List, [], ◌∷◌, ◌++◌, reverse, take, drop, length, Option, Some, None, option_map, Result, Ok, Err, not, if◌then◌else◌}
+use Rattle.std.specs.Prelude.{ℕ, zero, suc, ◌+◌, ◌-◌, ◌==◌, min, slice_get, List, [], ◌∷◌, ◌++◌, reverse, take, drop, length, Option, Some, None, Box, option_map, Result, Ok, Err, not, if◌then◌else◌}
 use Rattle.swift_base.specs.declared.place.Span.{Span}
+use Rattle.std.specs.declared.alloc.Global.{Global}
 use Rattle.swift_tree.specs.declared.item.Kind.{Kind}
 use Rattle.swift_tree.specs.declared.item.Kind.TheVariants as kind
-use Rattle.swift_tree.specs.Outlines.{ItemSeen, item, BlockSeen, block, no_block, block_from, items_from}
+use Rattle.swift_tree.specs.Outlines.{ItemSeen, item, BlockSeen, block, no_block, block_from, items_from, unboxed}
 use Rattle.swift_tree.specs.Outlines as outlines
 use Rattle.swift_tree.specs.declared.item.Block.{Block}
 use Rattle.element_marks.specs.declared.mark.Mark.{Mark}
@@ -123,8 +124,8 @@ block_of None members = no_block
 block_of (Some at) members = block at.span at.shape (items_from members)
 
 -- the code's block, apart from where it lies in memory
-abbrev pub braces_seen : Option Block → BlockSeen
-braces_seen braces = block_from (option_map outlines.block_of braces)
+abbrev pub braces_seen : Option (Box Block Global) → BlockSeen
+braces_seen braces = block_from (option_map outlines.block_of (unboxed braces))
 
 -- the end of a `;` that stands first, else this one
 abbrev pub after : ℕ → List Mark → ℕ

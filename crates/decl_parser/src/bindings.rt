@@ -18,7 +18,7 @@ use element_marks::{
     is_pattern, whole,
 };
 use std::alloc::Global;
-use swift_base::{Listed, Refusal, Span};
+use swift_base::{Refusal, Span};
 use swift_lexer::Element;
 use swift_tree::Binding;
 
@@ -96,7 +96,7 @@ fn binding_of(
     let tail = tail_of(behind(marks, 1), behind(insides, 1))?;
     let names = pattern_names(alloc, text, pattern, elements)?;
     let binding = Binding {
-        names: Listed::from_vec(names),
+        names,
         type_span: tail.type_span,
         equals: tail.equals,
         init: tail.init,

@@ -27,7 +27,8 @@ use swift_base::{Listed, Refusal, Span, Text};
 use swift_lexer::Element;
 use swift_tree::{Attr, Outline, Shape};
 
-/// How many elements a declaration in whose brackets nothing stands may have to need no list of what stands inside each.
+/// How many elements a declaration in whose brackets nothing stands may have, so that no list of what stands inside
+/// each is made.
 const BLANKS: usize = 64;
 
 /// The outline of a text of the shape by its elements.

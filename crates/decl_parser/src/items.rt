@@ -24,7 +24,7 @@ use element_marks::{
     item_length, marks_in, use_length,
 };
 use std::alloc::{AllocError, Global};
-use swift_base::{Listed, Refusal, Span};
+use swift_base::{Refusal, Span, ThinList};
 use swift_lexer::Element;
 use swift_tree::{Block, Item, Kind};
 
@@ -337,15 +337,22 @@ fn after(end: u32, next: &[Mark]) -> u32
     }
 }
 
-fn block_of(block: Option<BlockAt>, members: Vec<Item>) -> Option<Block>
-    ensures { braces_seen result ≡ block_of block (map item_of members.items) }
+fn block_of(
+    alloc: Global,
+    block: Option<BlockAt>,
+    members: Vec<Item>,
+) -> Result<Option<Box<Block>>, AllocError>
+    ensures { IfOk result (λ braces. braces_seen braces ≡ block_of block (map item_of members.items)) }
 {
-    let BlockAt { span, shape } = block?;
-    Some(Block {
+    let Some(BlockAt { span, shape }) = block else {
+        return Ok(None);
+    };
+    let braces = Block {
         span,
         shape,
         members,
-    })
+    };
+    Ok(Some(Box::new(alloc, braces)?))
 }
 
 /// The declaration by its elements, its parts and its members.
@@ -376,6 +383,9 @@ fn assembled(
             insides,
         },
     )?;
+    let own_attrs = ThinList::from_vec(alloc, attrs)?;
+    let all_uses = ThinList::from_vec(alloc, uses)?;
+    let all_locals = ThinList::from_vec(alloc, locals)?;
     let span = span_from(marks);
     let Parts {
         names,
@@ -386,17 +396,18 @@ fn assembled(
         body: _,
         blocks: _,
     } = parts;
+    let braces = block_of(alloc, block, members)?;
     Ok(Item {
         span,
         after: after(span.end, next),
         kind,
-        attrs: Listed::from_vec(attrs),
+        attrs: own_attrs,
         names,
         bindings,
-        block: block_of(block, members),
+        block: braces,
         inherits,
         extended,
-        uses: Listed::from_vec(uses),
-        locals: Listed::from_vec(locals),
+        uses: all_uses,
+        locals: all_locals,
     })
 }

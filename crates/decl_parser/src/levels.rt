@@ -116,7 +116,8 @@ fn are_blank_around(text: &[u8], elements: &[Element], place: usize) -> bool
     are_silent(text, upto(elements, place)) && are_silent(text, behind(behind(elements, place), 1))
 }
 
-/// The same; no list where nothing stands inside any of the elements, of which `blanks` has as many.
+/// What stands inside each element, as `insides_without` lists it. There is no list where nothing stands inside any of
+/// them, and they are no more than `blanks`.
 pub fn listed_insides(
     alloc: Global,
     text: &[u8],
@@ -134,7 +135,7 @@ pub fn listed_insides(
     Ok(Some(list))
 }
 
-/// What is listed, or else what stands inside so many tokens.
+/// The list, or else the first `count` of `blanks`.
 pub fn listed_or<'a>(
     blanks: &'a [Inside],
     count: usize,

@@ -1,6 +1,6 @@
 // The parts of a declaration by its kind.
 
-ghost use Rattle.std.specs.Prelude.{◌≡◌, ◌++◌, ◌∷◌, [], List, IfOk, MatchResult, OnOk, Some, None, map};
+ghost use Rattle.std.specs.Prelude.{◌≡◌, ◌++◌, ◌∷◌, [], List, IfErr, IfOk, MatchResult, OnOk, Some, None, map};
 ghost use Rattle.swift_lexer.specs.Trees.{forest_of};
 ghost use Rattle.element_marks.specs.declared.mark.Mark.{Mark};
 ghost use Rattle.element_marks.specs.Answers.{Answers, Refuses};
@@ -16,16 +16,16 @@ use element_marks::{
     name_of, span_of, whole,
 };
 use std::alloc::{AllocError, Global};
-use swift_base::{Listed, Refusal, Span};
+use swift_base::{Listed, Refusal, SmallList, Span};
 use swift_lexer::Element;
 use swift_tree::{Binding, BlockShape, Kind};
 
 /// What a declaration has behind its starter, but for what stands inside its members' braces.
 #[derive(Debug, Drop)]
 pub struct Parts {
-    pub names: Listed<Span>,
-    pub bindings: Listed<Binding>,
-    pub inherits: Listed<Span>,
+    pub names: SmallList<Span>,
+    pub bindings: SmallList<Binding>,
+    pub inherits: SmallList<Span>,
     pub extended: Option<Span>,
     pub block: Option<BlockAt>,
     /// How many elements stand before the braces behind which nothing may stand.
@@ -50,13 +50,13 @@ fn none<T>(alloc: Global) -> Listed<T>
 }
 
 /// Names and nothing else.
-fn names_only(alloc: Global, names: Listed<Span>) -> Parts
+fn names_only(alloc: Global, names: SmallList<Span>) -> Parts
     ensures { result ≡ names_only names }
 {
     Parts {
         names,
-        bindings: none(alloc),
-        inherits: none(alloc),
+        bindings: SmallList::none(),
+        inherits: SmallList::none(),
         extended: None,
         block: None,
         body: None,
@@ -78,7 +78,7 @@ pub fn parts_of(
 {
     match kind {
         Kind::Import | Kind::Operator | Kind::Precedencegroup | Kind::UseItem => {
-            Ok(names_only(alloc, none(alloc)))
+            Ok(names_only(alloc, SmallList::none()))
         }
         Kind::Typealias | Kind::Associatedtype | Kind::Macro => named(alloc, starter, marks),
         Kind::Struct | Kind::Class | Kind::Enum | Kind::Protocol | Kind::Actor => {
@@ -117,7 +117,7 @@ fn named(alloc: Global, starter: &Mark, marks: &[Mark]) -> Result<Parts, Refusal
     ensures { Answers (λ parts. parts) result (λ outcome. outcome ≡ named starter.now marks.now) }
 {
     let name = first_name(starter, marks)?;
-    Ok(names_only(alloc, one(alloc, name)?))
+    Ok(names_only(alloc, SmallList::one(name)))
 }
 
 fn of_type(alloc: Global, starter: &Mark, marks: &[Mark]) -> Result<Parts, Refusal<ParseFault>>
@@ -125,7 +125,7 @@ fn of_type(alloc: Global, starter: &Mark, marks: &[Mark]) -> Result<Parts, Refus
 {
     let name = first_name(starter, marks)?;
     let place = before_braces(marks);
-    let names = one(alloc, name)?;
+    let names = SmallList::one(name);
     let clause = behind(upto(marks, place), 1);
     with_members(
         alloc,
@@ -149,7 +149,7 @@ fn of_extension(alloc: Global, starter: &Mark, marks: &[Mark]) -> Result<Parts, 
     with_members(
         alloc,
         starter,
-        none(alloc),
+        SmallList::none(),
         Some(extended),
         clause,
         place,
@@ -162,7 +162,7 @@ fn of_extension(alloc: Global, starter: &Mark, marks: &[Mark]) -> Result<Parts, 
 fn with_members(
     alloc: Global,
     starter: &Mark,
-    names: Listed<Span>,
+    names: SmallList<Span>,
     extended: Option<Span>,
     clause: &[Mark],
     place: usize,
@@ -175,8 +175,8 @@ fn with_members(
     };
     Ok(Parts {
         names,
-        bindings: none(alloc),
-        inherits: Listed::from_vec(inherited(alloc, clause)?),
+        bindings: SmallList::none(),
+        inherits: SmallList::from_vec(alloc, inherited(alloc, clause)?)?,
         extended,
         block: Some(BlockAt {
             span: span_of(braces),
@@ -249,14 +249,14 @@ fn with_body(
 ) -> Result<Parts, AllocError>
     ensures { IfOk result (λ parts. parts ≡ with_body may_list name place marks.now insides.now) }
 {
-    let names = one(alloc, name)?;
+    let names = SmallList::one(name);
     let Some(braces) = marks.first() else {
         return Ok(names_only(alloc, names));
     };
     Ok(Parts {
         names,
-        bindings: none(alloc),
-        inherits: none(alloc),
+        bindings: SmallList::none(),
+        inherits: SmallList::none(),
         extended: None,
         block: block_here(may_list, marks, insides),
         body: Some(place),
@@ -281,13 +281,60 @@ fn of_variable(
 fn variable_parts(alloc: Global, bounds: Vec<Bound>) -> Result<Parts, AllocError>
     ensures { IfOk result (λ parts. parts ≡ variable_parts bounds.items) }
 {
+    match only_bound(bounds) {
+        Ok(bound) => one_variable(alloc, bound),
+        Err(bounds) => several_variables(alloc, bounds),
+    }
+}
+
+/// The binding, where there is only one.
+fn only_bound(mut bounds: Vec<Bound>) -> Result<Bound, Vec<Bound>>
+    ensures one { IfOk result (λ bound. bounds.items ≡ bound ∷ []) }
+    ensures several { IfErr result (λ others. others ≡ bounds) }
+{
+    if bounds.len() != 1 {
+        return Err(bounds);
+    }
+    match bounds.pop() {
+        Some(bound) => Ok(bound),
+        None => Err(bounds),
+    }
+}
+
+fn one_variable(alloc: Global, bound: Bound) -> Result<Parts, AllocError>
+    ensures { IfOk result (λ parts. parts ≡ variable_parts (bound ∷ [])) }
+{
+    let Bound { binding, block } = bound;
+    Ok(Parts {
+        names: SmallList::from_slice(alloc, binding.names.items())?,
+        bindings: SmallList::one(binding),
+        inherits: SmallList::none(),
+        extended: None,
+        block,
+        body: None,
+        blocks: start_of_block(alloc, block)?,
+    })
+}
+
+fn start_of_block(alloc: Global, block: Option<BlockAt>) -> Result<Listed<u32>, AllocError>
+    ensures { IfOk result (λ starts. starts ≡ block_start block) }
+{
+    match block {
+        Some(block) => one(alloc, block.span.start),
+        None => Ok(none(alloc)),
+    }
+}
+
+fn several_variables(alloc: Global, bounds: Vec<Bound>) -> Result<Parts, AllocError>
+    ensures { IfOk result (λ parts. parts ≡ variable_parts bounds.items) }
+{
     let names = all_names(alloc, &bounds)?;
     let blocks = all_blocks(alloc, &bounds)?;
     let block = last_block(&bounds);
     Ok(Parts {
-        names: Listed::from_vec(names),
-        bindings: Listed::from_vec(only_bindings(alloc, bounds)?),
-        inherits: none(alloc),
+        names: SmallList::from_vec(alloc, names)?,
+        bindings: SmallList::from_vec(alloc, only_bindings(alloc, bounds)?)?,
+        inherits: SmallList::none(),
         extended: None,
         block,
         body: None,
@@ -355,7 +402,7 @@ fn of_case(alloc: Global, starter: &Mark, marks: &[Mark]) -> Result<Parts, Refus
     ensures { Answers (λ parts. parts) result (λ outcome. outcome ≡ of_case starter.now marks.now) }
 {
     let names = case_names(alloc, starter.start, marks)?;
-    Ok(names_only(alloc, Listed::from_vec(names)))
+    Ok(names_only(alloc, SmallList::from_vec(alloc, names)?))
 }
 
 fn case_names(alloc: Global, anchor: u32, marks: &[Mark]) -> Result<Vec<Span>, Refusal<ParseFault>>

@@ -17,7 +17,7 @@ use element_marks::{
     Mark, Sort, is_blank, is_parentheses, is_underscore, name_at, name_of, sort_of,
 };
 use std::alloc::{AllocError, Global};
-use swift_base::Span;
+use swift_base::{SmallList, Span};
 use swift_lexer::Element;
 
 /// The names of the pattern that is the first of the elements.
@@ -26,18 +26,17 @@ pub fn pattern_names(
     text: &[u8],
     pattern: &Mark,
     elements: &[Element],
-) -> Result<Vec<Span>, AllocError>
-    ensures { IfOk result (λ names. names.items ≡ pattern_names pattern.now (held text.now (forest_of elements.now))) }
+) -> Result<SmallList<Span>, AllocError>
+    ensures { IfOk result (λ names. names ≡ pattern_names pattern.now (held text.now (forest_of elements.now))) }
 {
     if is_parentheses(pattern) {
-        return first_names(alloc, text, elements);
+        let names = first_names(alloc, text, elements)?;
+        return SmallList::from_vec(alloc, names);
     }
     if is_underscore(pattern.keyword) {
-        return Ok(Vec::new(alloc));
+        return Ok(SmallList::none());
     }
-    let mut names = Vec::with_capacity(alloc, 1)?;
-    names.push(name_of(pattern))?;
-    Ok(names)
+    Ok(SmallList::one(name_of(pattern)))
 }
 
 /// The names in the brackets of the first element.

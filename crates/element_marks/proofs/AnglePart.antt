@@ -1,14 +1,12 @@
 -- Angle parts, by a table of where each angle depth is reached next.
-use Rattle.std.proofs.Common.{◌≡◌, refl, ℕ, zero, suc, ◌+◌, ◌-◌, ◌<◌, ◌≤◌, ◌==◌, ◌∙◌, inl, inr, ap, sym, subst, arith, eq-eqb, length-set, get_or, get_or-set_same, get_or-set_other, set, replicate, List, [], ◌∷◌, length, drop, Bool, true, false, ◌||◌, if◌then◌else◌, Option, Some}
+use Rattle.std.proofs.Common.{◌≡◌, refl, ℕ, zero, suc, ◌+◌, ◌-◌, ◌<◌, ◌≤◌, ◌==◌, ◌∙◌, inl, inr, ap, sym, subst, arith, eq-eqb, length-set, get_or, get_or-set_same, get_or-set_other, set, replicate, List, [], ◌∷◌, length, drop, Bool, true, false, if◌then◌else◌, Option, Some}
 use Rattle.std.proofs.lemmas.Bool.{cases_eq, ne_eqb}
 use Rattle.element_marks.specs.declared.mark.Mark.{Mark}
-use Rattle.std.specs.List.{list_any}
 use Rattle.swift_lexer.specs.declared.element.Element.{Element}
-use Rattle.swift_lexer.specs.Trees.{Tree, leaf, nest, Forest, forest_of, none, cons}
-use Rattle.element_marks.specs.Marks.{mark_between, mark_of}
+use Rattle.swift_lexer.specs.Trees.{forest_of}
 use Rattle.element_marks.specs.Heads.{angles, angles_from, with_angles, with_joins, with_modifiers}
 use Rattle.element_marks.specs.Levels.{own_marks}
-use Rattle.element_marks.specs.Passes.{AnglesUnset, closes_of, opens_of}
+use Rattle.element_marks.specs.Passes.{closes_of, opens_of}
 use Rattle.element_marks.proofs.Further.{further, further_further, further_less, further_zero}
 
 same_test : (a b x : ℕ) → ((a + x) == (b + x)) ≡ (a == b)
@@ -137,16 +135,6 @@ pub part_is : (table : List ℕ) (at now : ℕ) (mark : Mark) (marks : List Mark
 unfolding angles
 part_is table at now mark marks is within = ap (λ n. if mark.begins_angle then n else 0) (part_of table at now (mark ∷ marks) is within)
 
--- marks by their own text have no angle part
-unset_of : (text : List ℕ) (tree : Tree) → (mark_of text tree).angles ≡ 0
-unfolding mark_between
-unset_of text (leaf token) = refl
-unset_of text (nest left inner right) = refl
-
-pub own_unset : (text : List ℕ) (forest : Forest) → AnglesUnset (own_marks text forest)
-own_unset text none = tt
-own_unset text (cons tree forest) = (unset_of text tree, own_unset text forest)
-
 pub length_own : (text : List ℕ) (elements : List Element) → length (own_marks text (forest_of elements)) ≡ length elements
 length_own text [] = refl
 length_own text (element ∷ elements) = ap suc (length_own text elements)
@@ -163,20 +151,3 @@ length_angles (mark ∷ marks) = ap suc (length_angles marks)
 pub length_modifiers : (marks : List Mark) → length (with_modifiers marks) ≡ length marks
 length_modifiers [] = refl
 length_modifiers (mark ∷ marks) = ap suc (length_modifiers marks)
-
-pub joins_unset : (previous : Option Mark) (marks : List Mark) → AnglesUnset marks → AnglesUnset (with_joins previous marks)
-joins_unset previous [] unset = tt
-joins_unset previous (mark ∷ marks) unset = (unset.0, joins_unset (Some mark) marks unset.1)
-
-neither : (a b : Bool) → (a || b) ≡ false → (a ≡ false) × (b ≡ false)
-neither true b is = cc
-neither false b is = (refl, is)
-
--- where no element begins one
-pub none_begins : (marks : List Mark) → AnglesUnset marks → list_any (λ mark. mark.begins_angle) marks ≡ false → marks ≡ with_angles marks
-unfolding angles
-none_begins [] unset is = refl
-none_begins (mark ∷ marks) unset is =
-    let parts : (mark.begins_angle ≡ false) × (list_any (λ m. m.begins_angle) marks ≡ false) = neither mark.begins_angle (list_any (λ m. m.begins_angle) marks) is in
-    ap (λ n. record mark { angles = n } ∷ marks) (unset.0 ∙ sym (ap (λ b. if b then angles_from 0 0 0 (mark ∷ marks) else 0) parts.0))
-    ∙ ap (λ l. record mark { angles = if mark.begins_angle then angles_from 0 0 0 (mark ∷ marks) else 0 } ∷ l) (none_begins marks unset.1 parts.1)

@@ -75,3 +75,23 @@ one_more pass (suc at) marks now new some within is step =
     (ap (λ l. set l at new) is
     ∙ finish_set at marks (pass (drop (suc at) marks)) new (omega (arith, within))
     ∙ ap (λ l. take at marks ++ l) (sym here))
+
+drop_finished : {A : Type 0} (at : ℕ) (marks rest : List A) → at < length marks → drop at (take at marks ++ rest) ≡ rest
+drop_finished at [] rest within = absurd (omega (arith, within))
+drop_finished zero (mark ∷ marks) rest within = refl
+drop_finished (suc at) (mark ∷ marks) rest within = drop_finished at marks rest (omega (arith, within))
+
+-- the element before the place and what stands behind it, once that element is set
+pub behind_set : {A : Type 0} (pass : List A → List A) (at : ℕ) (marks now : List A) (new : A) → 0 < at → at ≤ length marks → now ≡ finished pass at marks → drop (at - 1) (set now (at - 1) new) ≡ new ∷ pass (drop at marks)
+behind_set pass zero marks now new some within is = absurd (omega (arith, some))
+behind_set pass (suc at) marks now new some within is =
+    let before : at ≡ suc at - 1 = omega arith in
+    subst (λ n. drop n (set now n new) ≡ new ∷ pass (drop (suc at) marks)) before
+    (ap (λ l. drop at (set l at new)) is
+    ∙ ap (drop at) (finish_set at marks (pass (drop (suc at) marks)) new (omega (arith, within)))
+    ∙ drop_finished at marks (new ∷ pass (drop (suc at) marks)) (omega (arith, within)))
+
+pub set_twice : {A : Type 0} (at : ℕ) (marks : List A) (one other : A) → set (set marks at one) at other ≡ set marks at other
+set_twice at [] one other = refl
+set_twice zero (mark ∷ marks) one other = refl
+set_twice (suc at) (mark ∷ marks) one other = ap (λ l. mark ∷ l) (set_twice at marks one other)

@@ -5,7 +5,7 @@ use Rattle.element_marks.specs.declared.words.Keyword.TheVariants.{Starts}
 use Rattle.element_marks.specs.declared.mark.Mark.{Mark}
 use Rattle.element_marks.specs.Words.{wants_name}
 use Rattle.element_marks.specs.Sorts.{is_arguments, is_at, is_dot, is_name, is_parentheses, is_pound, is_word}
-use Rattle.element_marks.specs.Heads.{attribute_length, by_length, dots_length, first_angles, first_is, head, head_from, keyword_starts, modifier_length, modifies, modifies_before, name_tail, prefix_length, starts, with_heads, with_modifiers}
+use Rattle.element_marks.specs.Heads.{attribute_length, by_length, dots_length, first_angles, first_is, head, head_from, keyword_starts, modifier_length, modifies, modifies_before, name_tail, prefix_length, starts, with_angles, with_heads, with_modifiers}
 use Rattle.element_marks.specs.Passes.{HeadsKnown}
 use Rattle.element_marks.proofs.Further.{further, further_further}
 
@@ -13,6 +13,10 @@ use Rattle.element_marks.proofs.Further.{further, further_further}
 pub modifies_is : (mark : Mark) (marks : List Mark) → modifies (mark ∷ marks) ≡ modifies_before mark (slice_get (with_modifiers marks) 0)
 modifies_is mark [] = refl
 modifies_is mark (next ∷ marks) = refl
+
+-- angle parts, modifiers and heads
+abbrev pub settled : List Mark → List Mark
+settled marks = with_heads (with_modifiers (with_angles marks))
 
 abbrev pub headed : ℕ → Mark → Mark
 headed n mark = record mark { head = n }

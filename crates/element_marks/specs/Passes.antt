@@ -12,11 +12,6 @@ abbrev pub closes_of : List Mark → ℕ
 closes_of [] = 0
 closes_of (mark ∷ marks) = mark.closes + closes_of marks
 
--- no angle part is set
-abbrev pub AnglesUnset : List Mark → Type 0
-AnglesUnset [] = Unit {0}
-AnglesUnset (mark ∷ marks) = (mark.angles ≡ 0) × AnglesUnset marks
-
 -- each element has the head that begins with it
 abbrev pub HeadsKnown : List Mark → Type 0
 HeadsKnown [] = Unit {0}

@@ -1,11 +1,12 @@
 -- The sites of a declaration, by its parts.
-use Rattle.std.proofs.Common.{Bool, false, ◌≡◌, ℕ, Option, Some, None, List, [], ◌++◌, not, option_map, append_assoc, append-nil, refl, sym, ap, ap₂, ◌∙◌}
+use Rattle.std.proofs.Common.{Bool, false, ◌≡◌, ℕ, Option, Some, None, List, [], ◌++◌, not, option_map, append_assoc, append-nil, refl, sym, ap, ap₂, ◌∙◌, Box}
+use Rattle.std.specs.declared.alloc.Global.{Global}
 use Rattle.swift_base.specs.declared.plugins.Plugin.{Plugin}
 use Rattle.swift_tree.specs.declared.item.Block.{Block, out-Block}
 use Rattle.swift_tree.specs.declared.item.BlockShape.{BlockShape}
 use Rattle.swift_tree.specs.declared.item.BlockShape.TheVariants as shape
 use Rattle.swift_tree.specs.declared.item.Item.{Item, out-Item}
-use Rattle.swift_tree.specs.Outlines.{BlockSeen, block, block_from, block_of, item_of, items_of}
+use Rattle.swift_tree.specs.Outlines.{BlockSeen, block, block_from, block_of, item_of, items_of, unboxed}
 use Rattle.macro_decls.specs.declared.table.MacroDecl.{MacroDecl}
 use Rattle.expansion_model.specs.Attributes.{Carrier, carrier, head_of, shape_in}
 use Rattle.expansion_model.specs.Sites.{carrier_of, shape_of, is_use, is_member, count_members, members_in, members_of, sites_before, sites_behind, item_sites, block_sites, items_sites}
@@ -13,14 +14,14 @@ use Rattle.expansion_model.specs.declared.site.Site.{Site}
 use Rattle.expansion_model.proofs.Outlines.{item_of-is, block_of-is}
 
 abbrev pub inner_of : Item → BlockSeen
-inner_of i = block_from (option_map block_of (out-Item i).block)
+inner_of i = block_from (option_map block_of (unboxed (out-Item i).block))
 
 shape_is : (o : Option Block) → shape_of (block_from (option_map block_of o)) ≡ option_map shape_in o
 shape_is None = refl
 shape_is (Some b) = ap shape_of (block_of-is b)
 
 carrier_is : (i : Item) → carrier_of (head_of i) (inner_of i) ≡ carrier i
-carrier_is i = ap (λ (s : Option BlockShape). record { head = head_of i; shape = s }) (shape_is (out-Item i).block)
+carrier_is i = ap (λ (s : Option BlockShape). record { head = head_of i; shape = s }) (shape_is (unboxed (out-Item i).block))
 
 pub members_is : (i : Item) → members_of (item_of i) ≡ members_in (inner_of i)
 members_is i = ap members_of (item_of-is i)
@@ -41,10 +42,10 @@ pub members_in-accessors : (b : Block) → (out-Block b).shape ≡ shape.Accesso
 members_in-accessors b is = in_shape b shape.Accessors is
 
 pub members_is-none : (i : Item) → (out-Item i).block ≡ None → members_of (item_of i) ≡ 0
-members_is-none i lacks = members_is i ∙ ap (λ o. members_in (block_from (option_map block_of o))) lacks
+members_is-none i lacks = members_is i ∙ ap (λ o. members_in (block_from (option_map block_of (unboxed o)))) lacks
 
-pub members_is-some : (i : Item) (b : Block) → (out-Item i).block ≡ Some b → members_of (item_of i) ≡ members_in (block_of b)
-members_is-some i b some = members_is i ∙ ap (λ o. members_in (block_from (option_map block_of o))) some
+pub members_is-some : (i : Item) (b : Box Block Global) → (out-Item i).block ≡ Some b → members_of (item_of i) ≡ members_in (block_of b.value)
+members_is-some i b some = members_is i ∙ ap (λ o. members_in (block_from (option_map block_of (unboxed o)))) some
 
 module _ (text : List ℕ) (macros : List MacroDecl) (plugins : List Plugin) where
   item_is : (file_scope : Bool) (i : Item) → item_sites text macros plugins file_scope (item_of i)
@@ -54,10 +55,10 @@ module _ (text : List ℕ) (macros : List MacroDecl) (plugins : List Plugin) whe
       ap (item_sites text macros plugins file_scope) (item_of-is i) ∙ ap₂ P (carrier_is i) (sym (members_is i))
 
   inner_none : (i : Item) → (out-Item i).block ≡ None → block_sites text macros plugins (inner_of i) ≡ []
-  inner_none i lacks = ap (λ o. block_sites text macros plugins (block_from (option_map block_of o))) lacks
+  inner_none i lacks = ap (λ o. block_sites text macros plugins (block_from (option_map block_of (unboxed o)))) lacks
 
-  inner_some : (i : Item) (b : Block) → (out-Item i).block ≡ Some b → block_sites text macros plugins (inner_of i) ≡ block_sites text macros plugins (block_of b)
-  inner_some i b some = ap (λ o. block_sites text macros plugins (block_from (option_map block_of o))) some
+  inner_some : (i : Item) (b : Box Block Global) → (out-Item i).block ≡ Some b → block_sites text macros plugins (inner_of i) ≡ block_sites text macros plugins (block_of b.value)
+  inner_some i b some = ap (λ o. block_sites text macros plugins (block_from (option_map block_of (unboxed o)))) some
 
   -- what is put for a declaration, one part behind the other
   put_by : (file_scope : Bool) (before first inner last : List Site) (i : Item) → first ≡ before ++ sites_before text macros plugins file_scope (carrier i) (members_of (item_of i))
@@ -74,8 +75,8 @@ module _ (text : List ℕ) (macros : List MacroDecl) (plugins : List Plugin) whe
   put-none file_scope before first last i begins lacks ends =
       put_by file_scope before first (first ++ []) last i begins (ap (λ (l : List Site). first ++ l) (sym (inner_none i lacks))) (ends ∙ ap (λ (l : List Site). l ++ sites_behind text macros plugins (carrier i)) (sym (append-nil first)))
 
-  pub put-some : (file_scope : Bool) (before first inner last : List Site) (i : Item) (b : Block) → first ≡ before ++ sites_before text macros plugins file_scope (carrier i) (members_of (item_of i))
-      → (out-Item i).block ≡ Some b → inner ≡ first ++ block_sites text macros plugins (block_of b)
+  pub put-some : (file_scope : Bool) (before first inner last : List Site) (i : Item) (b : Box Block Global) → first ≡ before ++ sites_before text macros plugins file_scope (carrier i) (members_of (item_of i))
+      → (out-Item i).block ≡ Some b → inner ≡ first ++ block_sites text macros plugins (block_of b.value)
       → last ≡ inner ++ sites_behind text macros plugins (carrier i) → last ≡ before ++ item_sites text macros plugins file_scope (item_of i)
   put-some file_scope before first inner last i b begins some holds ends =
       put_by file_scope before first inner last i begins (holds ∙ ap (λ (l : List Site). first ++ l) (sym (inner_some i b some))) ends

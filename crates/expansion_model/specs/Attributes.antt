@@ -9,7 +9,7 @@ use Rattle.swift_tree.specs.declared.item.BlockShape.{BlockShape}
 use Rattle.swift_tree.specs.declared.item.BlockShape.TheVariants as shape
 use Rattle.swift_tree.specs.declared.item.Block.{Block, out-Block}
 use Rattle.swift_tree.specs.declared.item.Item.{Item, out-Item}
-use Rattle.swift_tree.specs.Outlines.{Head}
+use Rattle.swift_tree.specs.Outlines.{Head, unboxed}
 use Rattle.unique_names.specs.declared.role.Role.{Role}
 use Rattle.unique_names.specs.declared.role.Role.TheVariants as role
 use Rattle.macro_decls.specs.declared.table.MacroDecl.{MacroDecl}
@@ -34,7 +34,7 @@ abbrev pub shape_in : Block → BlockShape
 shape_in b = (out-Block b).shape
 
 abbrev pub carrier : Item → Carrier
-carrier i = record { head = head_of i; shape = option_map shape_in (out-Item i).block }
+carrier i = record { head = head_of i; shape = option_map shape_in (unboxed (out-Item i).block) }
 
 -- exactly one binding, of exactly one name
 abbrev pub has_one_name : List Binding → Bool

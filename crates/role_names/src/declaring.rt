@@ -1,6 +1,6 @@
 // The names that declarations declare.
 ghost use Rattle.std.specs.Prelude.{◌≡◌, ◌++◌, IfOk, option_map};
-ghost use Rattle.swift_tree.specs.Outlines.{block_from, block_of, item_of, items_of};
+ghost use Rattle.swift_tree.specs.Outlines.{block_from, block_of, item_of, items_of, unboxed};
 ghost use Rattle.role_names.specs.DeclaredNames.{declared_names, member_names, names_in_row, own_names};
 
 use std::alloc::{AllocError, Global};
@@ -18,8 +18,8 @@ pub fn declared_names(alloc: Global, item: &Item) -> Result<Vec<Span>, AllocErro
     }
 }
 
-fn inner_names(alloc: Global, block: &Option<Block>) -> Result<Vec<Span>, AllocError>
-    ensures { IfOk result (λ names. names.items ≡ member_names (block_from (option_map block_of block.now))) }
+fn inner_names(alloc: Global, block: &Option<Box<Block>>) -> Result<Vec<Span>, AllocError>
+    ensures { IfOk result (λ names. names.items ≡ member_names (block_from (option_map block_of (unboxed block.now)))) }
 {
     match block {
         Some(block) => member_names(alloc, block),

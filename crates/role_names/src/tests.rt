@@ -3,7 +3,7 @@
 use crate::{NameList, NameRule, covers, declared_names};
 use std::alloc::{AllocError, Global};
 use std::test::Fail;
-use swift_base::{Listed, Span, Text};
+use swift_base::{Listed, SmallList, Span, Text, ThinList};
 use swift_tree::{Block, BlockShape, Item, Kind};
 
 #[derive(Clone, Copy)]
@@ -113,14 +113,14 @@ fn item(
         span: span(0),
         after: 1,
         kind,
-        attrs: Listed::from_vec(Vec::new(alloc)),
-        names: Listed::from_vec(Vec::from_slice(alloc, names)?),
-        bindings: Listed::from_vec(Vec::new(alloc)),
+        attrs: ThinList::none(),
+        names: SmallList::from_slice(alloc, names)?,
+        bindings: SmallList::none(),
         block,
-        inherits: Listed::from_vec(Vec::new(alloc)),
+        inherits: SmallList::none(),
         extended: None,
-        uses: Listed::from_vec(Vec::new(alloc)),
-        locals: Listed::from_vec(Vec::new(alloc)),
+        uses: ThinList::none(),
+        locals: ThinList::none(),
     })
 }
 

@@ -6,3 +6,4 @@ pub mod MemoryFiles
 pub mod MemoryStarter
 pub mod Refusing
 pub mod Names
+pub mod Lists

@@ -1,5 +1,5 @@
 -- Readers, writers and files in memory, as plain data, and what each call makes of them. This project's own.
-use Rattle.std.specs.Prelude.{◌≡◌, ℕ, ◌+◌, ◌-◌, ◌<◌, ◌^◌, ◌==◌, ◌&&◌, ◌||◌, min, max, nat_lt, nat_le, Bool, if◌then◌else◌, Option, Some, None, Result, Ok, Err, is_some, List, [], ◌∷◌, ◌++◌, length, take, drop, slice_get, option_map}
+use Rattle.std.specs.Prelude.{ℕ, ◌+◌, ◌-◌, ◌^◌, ◌==◌, ◌&&◌, ◌||◌, min, max, nat_lt, nat_le, Bool, if◌then◌else◌, Option, Some, None, Result, Ok, Err, List, ◌++◌, length, take, drop, slice_get}
 use Rattle.std.specs.List.{list_any}
 use Rattle.swift_base.specs.declared.outside.ReadFault.{ReadFault}
 use Rattle.swift_base.specs.declared.outside.WriteFault.{WriteFault}

@@ -1,5 +1,5 @@
 -- Files in memory, as plain data, and what each call makes of them. This project's own.
-use Rattle.std.specs.Prelude.{◌≡◌, ℕ, ◌<◌, ◌||◌, ◌==◌, drop, nat_lt, Bool, if◌then◌else◌, Option, Some, None, is_none, Result, Ok, Err, List, [], ◌∷◌, ◌++◌, length, map, find, option_map}
+use Rattle.std.specs.Prelude.{ℕ, if◌then◌else◌, Option, None, is_none, List, [], ◌∷◌, ◌++◌, find, option_map}
 use Rattle.std.specs.Str.{bytes_eq}
 use Rattle.swift_base.specs.Memory.{raised, is_listed}
 

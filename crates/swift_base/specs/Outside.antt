@@ -1,6 +1,6 @@
 -- What contracts see of readers, writers, files and starters. This project's own.
-use Rattle.std.specs.Prelude.{◌≡◌, ℕ, ◌<◌, ◌≤◌, Option, Some, None, List, [], ◌∷◌, ◌++◌, length}
-use Rattle.swift_base.specs.Told.{Tells, then_name}
+use Rattle.std.specs.Prelude.{◌≡◌, ℕ, Option, Some, None, List, [], ◌∷◌, ◌++◌, length}
+use Rattle.swift_base.specs.Told.{Tells}
 
 -- A reader: how often it failed, how often it came to its end, and what it has left, where it tells that.
 pub record SourceSeen : Type 0 where

@@ -1,5 +1,5 @@
 -- Values that an object of the outside tells or doesn't tell. This project's own.
-use Rattle.std.specs.Prelude.{ℕ, ◌+◌, ◌-◌, ◌<◌, ◌≤◌, ◌^◌, ◌⊎◌, Option, Some, None, List, [], ◌∷◌, ◌++◌}
+use Rattle.std.specs.Prelude.{ℕ, ◌-◌, ◌<◌, ◌≤◌, ◌^◌, ◌⊎◌, Option, Some, None, List, [], ◌∷◌, ◌++◌}
 
 -- a fact about what is told; nothing is said where nothing is told
 abbrev pub Tells : {A : Type 0} → Option A → (A → Type 0) → Type 0

@@ -4,6 +4,7 @@
 #![tactic(auto)]
 
 mod listed;
+mod lists;
 mod memory;
 mod outside;
 mod place;
@@ -13,6 +14,7 @@ mod text;
 mod write;
 
 pub use listed::Listed;
+pub use lists::{SmallList, ThinList};
 pub use memory::{MemFiles, MemScript, MemSink, MemSource, MemStarter};
 pub use outside::{FileFault, Files, ReadFault, Sink, Source, StartFault, Starter, WriteFault};
 pub use place::{Span, line_column};

@@ -88,3 +88,16 @@ fn outside_in_memory_starter(rt: HostRuntime) -> Result<(), Fail> {
     assert_eq!(rt; starter.faults(), 2);
     Ok(())
 }
+
+#[test]
+fn short_lists(rt: HostRuntime) -> Result<(), Fail> {
+    let alloc = rt.alloc();
+    for values in [b"".as_slice(), b"a", b"ab", b"abc"] {
+        let small = SmallList::from_vec(alloc, Vec::from_slice(alloc, values)?)?;
+        assert_eq!(rt; small.items(), values);
+        assert_eq!(rt; SmallList::from_slice(alloc, values)?.items(), values);
+        let thin = ThinList::from_vec(alloc, Vec::from_slice(alloc, values)?)?;
+        assert_eq!(rt; thin.items(), values);
+    }
+    Ok(())
+}

@@ -1,5 +1,6 @@
 -- What contracts see of declarations and outlines: plain data, this project's own.
-use Rattle.std.specs.Prelude.{ℕ, List, [], ◌∷◌, map, Option, None, Some}
+use Rattle.std.specs.Prelude.{ℕ, List, [], ◌∷◌, map, Option, None, Some, Box}
+use Rattle.std.specs.declared.alloc.Global.{Global}
 use Rattle.swift_base.specs.declared.place.Span.{Span}
 use Rattle.swift_tree.specs.declared.item.Kind.{Kind}
 use Rattle.swift_tree.specs.declared.item.MacroUse.{MacroUse}
@@ -47,11 +48,16 @@ abbrev pub block_from : Option BlockSeen → BlockSeen
 block_from None = no_block
 block_from (Some seen) = seen
 
+-- what the box holds, where there is one
+abbrev pub unboxed : {A : Type 0} → Option (Box A Global) → Option A
+unboxed None = None
+unboxed (Some boxed) = Some boxed.value
+
 abbrev pub block_step : Block-F BlockSeen ItemSeen → BlockSeen
 block_step b = block b.span b.shape (items_from b.members.items)
 
 abbrev pub item_step : Item-F BlockSeen ItemSeen → ItemSeen
-item_step i = item (record { span = i.span; after = i.after; kind = i.kind; attrs = i.attrs; names = i.names; bindings = i.bindings; inherits = i.inherits; extended = i.extended; uses = i.uses; locals = i.locals }) (block_from i.block)
+item_step i = item (record { span = i.span; after = i.after; kind = i.kind; attrs = i.attrs; names = i.names; bindings = i.bindings; inherits = i.inherits; extended = i.extended; uses = i.uses; locals = i.locals }) (block_from (unboxed i.block))
 
 -- what a block stands for
 unfoldable pub block_of : Block → BlockSeen

@@ -1,6 +1,6 @@
 // Declarations and their parts.
 
-use swift_base::{Listed, Span};
+use swift_base::{Listed, SmallList, Span, ThinList};
 
 /// The kinds of declaration: one for each word that starts a declaration, and a macro use in a declaration's place.
 #[derive(Clone, Copy, PartialEq, Eq, Debug)]
@@ -49,7 +49,7 @@ pub struct Attr {
 /// end of its last token, its block included.
 #[derive(Debug, Drop)]
 pub struct Binding {
-    pub names: Listed<Span>,
+    pub names: SmallList<Span>,
     pub type_span: Option<Span>,
     pub equals: Option<u32>,
     pub init: Option<Span>,
@@ -85,12 +85,12 @@ pub struct Item {
     pub span: Span,
     pub after: u32,
     pub kind: Kind,
-    pub attrs: Listed<Attr>,
-    pub names: Listed<Span>,
-    pub bindings: Listed<Binding>,
-    pub block: Option<Block>,
-    pub inherits: Listed<Span>,
+    pub attrs: ThinList<Attr>,
+    pub names: SmallList<Span>,
+    pub bindings: SmallList<Binding>,
+    pub block: Option<Box<Block>>,
+    pub inherits: SmallList<Span>,
     pub extended: Option<Span>,
-    pub uses: Listed<MacroUse>,
-    pub locals: Listed<Attr>,
+    pub uses: ThinList<MacroUse>,
+    pub locals: ThinList<Attr>,
 }

@@ -18,9 +18,9 @@ returns c =
     let head : c.head_of.result ≡ head_of (drop from list) = c.head_of.ensures.value ∙ ap head_of marks in
     let found : seen c.in_ok-attrs.field-0 ≡ found_from parts.blocks (from + head_of (drop from list)) list from 0 (length list - from) c.args.insides.now =
     c.in_ok-attrs.ensures ∙ ap (λ b. found_from b (from + c.head_of.result) list from 0 (length list - from) c.args.insides.now) (c.new.ensures.starts ∙ c.items.ensures) ∙ ap (λ h. found_from parts.blocks (from + h) list from 0 (length list - from) c.args.insides.now) head in
-    let attrs : c.from_vec.result ≡ (found_from parts.blocks (from + head_of (drop from list)) list from 0 (length list - from) c.args.insides.now).attrs = c.from_vec.ensures ∙ ap (λ f. f.attrs) found in
-    let uses : c.from_vec-2.result ≡ (found_from parts.blocks (from + head_of (drop from list)) list from 0 (length list - from) c.args.insides.now).uses = c.from_vec-2.ensures ∙ ap (λ f. f.uses) found in
-    let locals : c.from_vec-3.result ≡ (found_from parts.blocks (from + head_of (drop from list)) list from 0 (length list - from) c.args.insides.now).locals = c.from_vec-3.ensures ∙ ap (λ f. f.locals) found in
-    let block : braces_seen c.block_of.result ≡ block_of parts.block (map item_of c.args.members.items) = c.block_of.ensures in
-    item_of-roll (record { span = c.span_from-span.result; after = c.after.result; kind = c.args.kind; attrs = c.from_vec.result; names = parts.names; bindings = parts.bindings; inherits = parts.inherits; extended = parts.extended; uses = c.from_vec-2.result; locals = c.from_vec-3.result }) c.block_of.result
+    let attrs : c.in_ok-own_attrs.own_attrs ≡ (found_from parts.blocks (from + head_of (drop from list)) list from 0 (length list - from) c.args.insides.now).attrs = c.in_ok-own_attrs.ensures ∙ ap (λ f. f.attrs) found in
+    let uses : c.in_ok-all_uses.all_uses ≡ (found_from parts.blocks (from + head_of (drop from list)) list from 0 (length list - from) c.args.insides.now).uses = c.in_ok-all_uses.ensures ∙ ap (λ f. f.uses) found in
+    let locals : c.in_ok-all_locals.all_locals ≡ (found_from parts.blocks (from + head_of (drop from list)) list from 0 (length list - from) c.args.insides.now).locals = c.in_ok-all_locals.ensures ∙ ap (λ f. f.locals) found in
+    let block : braces_seen c.in_ok-braces.braces ≡ block_of parts.block (map item_of c.args.members.items) = c.in_ok-braces.ensures in
+    item_of-roll (record { span = c.span_from-span.result; after = c.after.result; kind = c.args.kind; attrs = c.in_ok-own_attrs.own_attrs; names = parts.names; bindings = parts.bindings; inherits = parts.inherits; extended = parts.extended; uses = c.in_ok-all_uses.all_uses; locals = c.in_ok-all_locals.all_locals }) c.in_ok-braces.braces
     ∙ (λ i. item (record { span = span i; after = end i; kind = c.args.kind; attrs = attrs i; names = parts.names; bindings = parts.bindings; inherits = parts.inherits; extended = parts.extended; uses = uses i; locals = locals i }) (block i))

@@ -1,6 +1,6 @@
 use Rattle.std.proofs.Common.{false, ◌++◌, sym, ap, ◌∙◌, inl, inr, append-nil}
-use Rattle.swift_tree.specs.Outlines.{items_of}
-use Rattle.expansion_model.specs.Sites.{items_sites}
+use Rattle.swift_tree.specs.Outlines.{block_of, items_of}
+use Rattle.expansion_model.specs.Sites.{block_sites, items_sites}
 use Rattle.expansion_model.proofs.Parts.{put-none, put-some, block-members, block-body, block-accessors}
 use Rattle.expansion_model.proofs.visits.+visits.Goals as goal
 
@@ -18,7 +18,8 @@ put_block-returns-in-Body t c =
 
 pub put_item-returns-in_ok-put_behind-in-Some : goal.put_item-returns-in_ok-put_behind-in-Some
 put_item-returns-in_ok-put_behind-in-Some t c =
-    put-some c.args.text.now c.args.macros.now c.args.plugins.now c.args.file_scope c.args.sites.now.items _ _ _ c.args.item.now c.in-Some.block c.in_ok-put_before.ensures c.in-Some.is c.in_ok-put_block-in-Some.ensures
+    put-some c.args.text.now c.args.macros.now c.args.plugins.now c.args.file_scope c.args.sites.now.items _ _ _ c.args.item.now c.in-Some.block c.in_ok-put_before.ensures c.in-Some.is
+    (c.in_ok-put_block-in-Some.ensures ∙ ap (λ b. c.put_before.new.sites.items ++ block_sites c.args.text.now c.args.macros.now c.args.plugins.now (block_of b)) c.deref.ensures)
     c.in_ok-put_behind-in-Some.ensures
 
 pub put_item-returns-in_ok-put_behind-in-None : goal.put_item-returns-in_ok-put_behind-in-None
