@@ -1,5 +1,5 @@
 -- Bindings one behind the other.
-use Rattle.std.proofs.Common.{◌≡◌, refl, ℕ, zero, suc, ◌+◌, ◌<◌, ◌∙◌, ap, sym, arith, append-nil, length, List, [], ◌∷◌, ◌++◌, take, drop, drop-drop, Some, None, Result, Ok, Err, false}
+use Rattle.std.proofs.Common.{◌≡◌, refl, ℕ, zero, suc, ◌+◌, ◌<◌, ◌==◌, ◌∙◌, ap, sym, arith, append-nil, length, List, [], ◌∷◌, ◌++◌, take, drop, drop-drop, Some, None, Result, Ok, Err, false}
 use Rattle.element_marks.specs.declared.mark.Mark.{Mark}
 use Rattle.element_marks.specs.Answers.{and_then}
 use Rattle.element_marks.specs.Runs.{binding_length}
@@ -22,6 +22,10 @@ skip (suc inside) (mark ∷ marks) insides held =
     skip inside marks (drop 1 insides) (drop 1 held)
     ∙ ap (λ l. bindings_from None 0 (drop inside marks) l (drop inside (drop 1 held))) (drop-drop inside 1 insides ∙ ap (λ n. drop n insides) at)
     ∙ ap (bindings_from None 0 (drop inside marks) (drop (suc inside) insides)) (drop-drop inside 1 held ∙ ap (λ n. drop n held) at)
+
+pub some_left : (n : ℕ) → (n == 0) ≡ false → 0 < n
+some_left zero empty = cc
+some_left (suc n) empty = omega arith
 
 -- the first binding, of so many elements, and those behind its comma
 abbrev pub by_first : ℕ → List Mark → List Inside → List Held → Result (List Bound) ParseFault

@@ -1,9 +1,9 @@
 // The bindings of `var` and `let`.
 
-ghost use Rattle.std.specs.Prelude.{◌≡◌, Some, None};
+ghost use Rattle.std.specs.Prelude.{◌≡◌, ◌∷◌, [], IfSome, MatchResult, Ok, Some, None};
 ghost use Rattle.swift_base.specs.declared.refusal.Refusal.TheVariants.{Fault};
 ghost use Rattle.swift_lexer.specs.Trees.{forest_of};
-ghost use Rattle.element_marks.specs.Answers.{Answers};
+ghost use Rattle.element_marks.specs.Answers.{Answers, Refuses};
 ghost use Rattle.decl_parser.specs.declared.fault.ParseKind.TheVariants.{BadBinding};
 ghost use Rattle.decl_parser.specs.Bindings.{binding_of, bindings_from, blocked, has_observers, tail_of, type_before, with_initializer, without_initializer};
 ghost use Rattle.decl_parser.specs.Levels.{held};
@@ -42,6 +42,29 @@ fn bad(at: u32) -> Refusal<ParseFault>
     ensures { result ≡ Fault (record { at = at; kind = BadBinding }) }
 {
     fault(at, ParseKind::BadBinding)
+}
+
+/// The binding behind the starter at `anchor`, where the elements are one alone.
+pub fn sole_binding(
+    alloc: Global,
+    text: &[u8],
+    anchor: u32,
+    marks: &[Mark],
+    insides: &[Inside],
+    elements: &[Element],
+) -> Result<Option<Bound>, Refusal<ParseFault>>
+    ensures { MatchResult result (λ found. IfSome found (λ bound. Ok (bound ∷ []) ≡ bindings_from (Some anchor) 0 marks.now insides.now (held text.now (forest_of elements.now))))
+        (λ refusal. Refuses refusal (λ outcome. outcome ≡ bindings_from (Some anchor) 0 marks.now insides.now (held text.now (forest_of elements.now)))) }
+{
+    if marks.is_empty() {
+        return Err(bad(anchor));
+    }
+    let count = 1 + binding_length(behind(marks, 1));
+    if !behind(marks, count).is_empty() {
+        return Ok(None);
+    }
+    let bound = binding_of(alloc, text, upto(marks, count), insides, elements)?;
+    Ok(Some(bound))
 }
 
 /// The bindings behind the starter at `anchor`, which the elements are.

@@ -1,6 +1,6 @@
 // Lists of elements cut into declarations.
 
-ghost use Rattle.std.specs.Prelude.{◌≡◌, ◌<◌, ◌≤◌, ◌+◌, ℕ, List, Some, IfOk, drop, length, map, option_map};
+ghost use Rattle.std.specs.Prelude.{◌≡◌, ◌<◌, ◌≤◌, ◌+◌, ℕ, List, Ok, Some, IfOk, drop, length, map, option_map};
 ghost use Rattle.swift_lexer.specs.Trees.{forest_of};
 ghost use Rattle.swift_tree.specs.Outlines.{item_of};
 ghost use Rattle.element_marks.specs.Answers.{Answers};
@@ -148,7 +148,7 @@ fn item_at(
     let parts = own_parts(alloc, own, kind, &starter, head, insides)?;
     let members = members_at(alloc, own.text, own.elements, braces, own.blanks)?;
     all_ends(parts.body, &starter, own.list, own.from)?;
-    Ok(assembled(alloc, own, next, kind, parts, insides, members)?)
+    assembled(alloc, own, next, kind, parts, insides, members)
 }
 
 /// The parts of a declaration, of whose elements so many are its head.
@@ -364,9 +364,9 @@ fn assembled(
     parts: Parts,
     insides: &[Inside],
     members: Vec<Item>,
-) -> Result<Item, AllocError>
+) -> Result<Item, Refusal<ParseFault>>
     requires { own.from ≤ length own.list.now }
-    ensures { IfOk result (λ item. item_of item ≡ whole_item own.entry.list.now own.entry.from next.now kind parts insides.now (map item_of members.items)) }
+    ensures { Answers item_of result (λ outcome. outcome ≡ Ok (whole_item own.entry.list.now own.entry.from next.now kind parts insides.now (map item_of members.items))) }
 {
     let marks = behind(own.list, own.from);
     let Findings {

@@ -1,13 +1,13 @@
 // The parts of a declaration by its kind.
 
-ghost use Rattle.std.specs.Prelude.{◌≡◌, ◌++◌, ◌∷◌, [], List, IfErr, IfOk, MatchResult, OnOk, Some, None, map};
+ghost use Rattle.std.specs.Prelude.{◌≡◌, ◌++◌, ◌∷◌, [], List, IfOk, MatchResult, OnOk, Some, None, map};
 ghost use Rattle.swift_lexer.specs.Trees.{forest_of};
 ghost use Rattle.element_marks.specs.declared.mark.Mark.{Mark};
 ghost use Rattle.element_marks.specs.Answers.{Answers, Refuses};
 ghost use Rattle.decl_parser.specs.Levels.{held};
 ghost use Rattle.decl_parser.specs.Parts.{all_blocks, all_names, block_start, case_names, code, comma_start, first_name, function_name, has_members, last_block, named, names_only, of_case, of_extension, of_function, of_type, of_variable, operator_name, parts, prefixed, variable_parts, with_body, with_members};
 
-use crate::bindings::{Bound, bindings};
+use crate::bindings::{Bound, bindings, sole_binding};
 use crate::fault::{ParseFault, ParseKind, fault};
 use crate::inside::{BlockAt, Inside, block_here};
 use crate::lists::{add, behind, upto};
@@ -274,6 +274,10 @@ fn of_variable(
 ) -> Result<Parts, Refusal<ParseFault>>
     ensures { Answers (λ parts. parts) result (λ outcome. outcome ≡ of_variable starter.now marks.now insides.now (held text.now (forest_of elements.now))) }
 {
+    let found = sole_binding(alloc, text, starter.start, marks, insides, elements)?;
+    if let Some(bound) = found {
+        return Ok(one_variable(alloc, bound)?);
+    }
     let bounds = bindings(alloc, text, starter.start, marks, insides, elements)?;
     Ok(variable_parts(alloc, bounds)?)
 }
@@ -281,26 +285,21 @@ fn of_variable(
 fn variable_parts(alloc: Global, bounds: Vec<Bound>) -> Result<Parts, AllocError>
     ensures { IfOk result (λ parts. parts ≡ variable_parts bounds.items) }
 {
-    match only_bound(bounds) {
-        Ok(bound) => one_variable(alloc, bound),
-        Err(bounds) => several_variables(alloc, bounds),
-    }
+    let names = all_names(alloc, &bounds)?;
+    let blocks = all_blocks(alloc, &bounds)?;
+    let block = last_block(&bounds);
+    Ok(Parts {
+        names: SmallList::from_vec(alloc, names)?,
+        bindings: SmallList::from_vec(alloc, only_bindings(alloc, bounds)?)?,
+        inherits: SmallList::none(),
+        extended: None,
+        block,
+        body: None,
+        blocks: Listed::from_vec(blocks),
+    })
 }
 
-/// The binding, where there is only one.
-fn only_bound(mut bounds: Vec<Bound>) -> Result<Bound, Vec<Bound>>
-    ensures one { IfOk result (λ bound. bounds.items ≡ bound ∷ []) }
-    ensures several { IfErr result (λ others. others ≡ bounds) }
-{
-    if bounds.len() != 1 {
-        return Err(bounds);
-    }
-    match bounds.pop() {
-        Some(bound) => Ok(bound),
-        None => Err(bounds),
-    }
-}
-
+/// The parts of a variable with this binding alone.
 fn one_variable(alloc: Global, bound: Bound) -> Result<Parts, AllocError>
     ensures { IfOk result (λ parts. parts ≡ variable_parts (bound ∷ [])) }
 {
@@ -323,23 +322,6 @@ fn start_of_block(alloc: Global, block: Option<BlockAt>) -> Result<Listed<u32>, 
         Some(block) => one(alloc, block.span.start),
         None => Ok(none(alloc)),
     }
-}
-
-fn several_variables(alloc: Global, bounds: Vec<Bound>) -> Result<Parts, AllocError>
-    ensures { IfOk result (λ parts. parts ≡ variable_parts bounds.items) }
-{
-    let names = all_names(alloc, &bounds)?;
-    let blocks = all_blocks(alloc, &bounds)?;
-    let block = last_block(&bounds);
-    Ok(Parts {
-        names: SmallList::from_vec(alloc, names)?,
-        bindings: SmallList::from_vec(alloc, only_bindings(alloc, bounds)?)?,
-        inherits: SmallList::none(),
-        extended: None,
-        block,
-        body: None,
-        blocks: Listed::from_vec(blocks),
-    })
 }
 
 fn all_names(alloc: Global, bounds: &[Bound]) -> Result<Vec<Span>, AllocError>

@@ -1,4 +1,4 @@
-use Rattle.std.proofs.Common.{◌≡◌, ◌∙◌, ◌+◌, ◌<◌, ◌==◌, ◌∷◌, ◌++◌, [], ℕ, suc, zero, ap, sym, arith, drop, length, false, Some, Ok}
+use Rattle.std.proofs.Common.{◌≡◌, ◌∙◌, ◌+◌, ◌∷◌, ◌++◌, [], ap, sym, drop, length, false, Some, Ok}
 use Rattle.std.proofs.lemmas.Result.{err_from_is_err_and}
 use Rattle.swift_lexer.specs.Trees.{forest_of}
 use Rattle.element_marks.specs.Runs.{binding_length}
@@ -6,13 +6,9 @@ use Rattle.decl_parser.specs.Bindings.{binding_of, bindings_from}
 use Rattle.decl_parser.specs.Levels.{held}
 use Rattle.decl_parser.specs.Parts.{prefixed}
 use Rattle.decl_parser.proofs.Grouped.{held_drop}
-use Rattle.decl_parser.proofs.BindingWalks.{bad_binding, last_binding, next_binding}
+use Rattle.decl_parser.proofs.BindingWalks.{bad_binding, last_binding, next_binding, some_left}
 use Rattle.decl_parser.proofs.Prefixes.{refused_on}
 use Rattle.decl_parser.proofs.bindings.bindings.Goals as goal
-
-some_left : (n : ℕ) → (n == 0) ≡ false → 0 < n
-some_left zero empty = cc
-some_left (suc n) empty = omega arith
 
 pub returns-in_err-bound : goal.returns-in_err-bound
 returns-in_err-bound c =
