@@ -1,6 +1,6 @@
 // The parts of a declaration by its kind.
 
-ghost use Rattle.std.specs.Prelude.{◌≡◌, ◌++◌, ◌∷◌, [], List, IfOk, MatchResult, OnOk, Some, None, map};
+ghost use Rattle.std.specs.Prelude.{◌≡◌, ◌++◌, ◌∷◌, [], List, IfOk, MatchResult, Ok, OnOk, Some, None, map};
 ghost use Rattle.swift_lexer.specs.Trees.{forest_of};
 ghost use Rattle.element_marks.specs.declared.mark.Mark.{Mark};
 ghost use Rattle.element_marks.specs.Answers.{Answers, Refuses};
@@ -276,7 +276,7 @@ fn of_variable(
 {
     let found = sole_binding(alloc, text, starter.start, marks, insides, elements)?;
     if let Some(bound) = found {
-        return Ok(one_variable(alloc, bound)?);
+        return one_variable(alloc, bound);
     }
     let bounds = bindings(alloc, text, starter.start, marks, insides, elements)?;
     Ok(variable_parts(alloc, bounds)?)
@@ -300,8 +300,8 @@ fn variable_parts(alloc: Global, bounds: Vec<Bound>) -> Result<Parts, AllocError
 }
 
 /// The parts of a variable with this binding alone.
-fn one_variable(alloc: Global, bound: Bound) -> Result<Parts, AllocError>
-    ensures { IfOk result (λ parts. parts ≡ variable_parts (bound ∷ [])) }
+fn one_variable(alloc: Global, bound: Bound) -> Result<Parts, Refusal<ParseFault>>
+    ensures { Answers (λ parts. parts) result (λ outcome. outcome ≡ Ok (variable_parts (bound ∷ []))) }
 {
     let Bound { binding, block } = bound;
     Ok(Parts {
