@@ -109,6 +109,10 @@ fn item(
     names: &[Span],
     block: Option<Block>,
 ) -> Result<Item, AllocError> {
+    let block = match block {
+        Some(block) => Some(Box::new(alloc, block)?),
+        None => None,
+    };
     Ok(Item {
         span: span(0),
         after: 1,
