@@ -45,6 +45,7 @@ fn bad(at: u32) -> Refusal<ParseFault>
 }
 
 /// The binding behind the starter at `anchor`, where the elements are one alone.
+#[inline(always)]
 pub fn sole_binding(
     alloc: Global,
     text: &[u8],
@@ -101,6 +102,7 @@ pub fn bindings(
 }
 
 /// The binding that the elements with the marks are.
+#[inline(always)]
 fn binding_of(
     alloc: Global,
     text: &[u8],
@@ -132,6 +134,7 @@ fn binding_of(
 }
 
 /// What a binding has behind its pattern.
+#[inline(always)]
 fn tail_of(marks: &[Mark], insides: &[Inside]) -> Result<Tail, Refusal<ParseFault>>
     ensures { Answers (λ tail. tail) result (λ outcome. outcome ≡ tail_of marks.now insides.now) }
 {
@@ -156,6 +159,7 @@ fn type_before(marks: &[Mark]) -> Result<Option<Span>, Refusal<ParseFault>>
 }
 
 /// Behind the `=` at `equals`.
+#[inline(always)]
 fn with_initializer(
     type_span: Option<Span>,
     equals: u32,

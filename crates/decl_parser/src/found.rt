@@ -38,6 +38,7 @@ pub struct Search<'a, 'b> {
 }
 
 /// What is found in the last elements of a list.
+#[inline(always)]
 pub fn found(alloc: Global, search: Search) -> Result<Findings, AllocError>
     requires { search.from ≤ length search.list.now }
     ensures { IfOk result (λ findings. seen findings ≡ found_from search.entry.blocks.starts.now search.entry.own search.entry.list.now search.entry.from 0 (length search.entry.list.now - search.entry.from) search.entry.insides.now) }
@@ -57,6 +58,7 @@ fn begins_any(marks: &[Mark]) -> bool
 }
 
 /// What stands inside the elements.
+#[inline(always)]
 fn all_within(alloc: Global, insides: &[Inside]) -> Result<Findings, AllocError>
     ensures { IfOk result (λ findings. seen findings ≡ all_within insides.now) }
 {

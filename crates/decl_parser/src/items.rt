@@ -26,7 +26,7 @@ use element_marks::{
 use std::alloc::{AllocError, Global};
 use swift_base::{Refusal, Span, ThinList};
 use swift_lexer::Element;
-use swift_tree::{Block, Item, Kind};
+use swift_tree::{Block, Further, FurtherParts, Item, Kind};
 
 /// The kind of declaration that a word begins.
 fn word_kind(starter: Starter) -> Kind
@@ -152,6 +152,7 @@ fn item_at(
 }
 
 /// The parts of a declaration, of whose elements so many are its head.
+#[inline(always)]
 fn own_parts(
     alloc: Global,
     own: Own,
@@ -191,6 +192,7 @@ fn members_at(
 }
 
 /// The starter of a declaration that may stand there.
+#[inline(always)]
 fn beginning(place: Place, own: &[Mark]) -> Result<Mark, Refusal<ParseFault>>
     ensures { Answers (λ starter. starter) result (λ outcome. outcome ≡ beginning place own.now) }
 {
@@ -200,6 +202,7 @@ fn beginning(place: Place, own: &[Mark]) -> Result<Mark, Refusal<ParseFault>>
 }
 
 /// The declaration ends as it should.
+#[inline(always)]
 fn all_ends(
     body: Option<usize>,
     starter: &Mark,
@@ -215,6 +218,7 @@ fn all_ends(
 }
 
 /// How many elements the declaration is that begins here.
+#[inline(always)]
 fn count_of(marks: &[Mark]) -> usize
     ensures value { result ≡ count_of marks.now }
     ensures bound { result ≤ length marks.now + length marks.now }
@@ -337,6 +341,7 @@ fn after(end: u32, next: &[Mark]) -> u32
     }
 }
 
+#[inline(always)]
 fn block_of(
     alloc: Global,
     block: Option<BlockAt>,
@@ -356,6 +361,7 @@ fn block_of(
 }
 
 /// The declaration by its elements, its parts and its members.
+#[inline(always)]
 fn assembled(
     alloc: Global,
     own: Own,
@@ -397,17 +403,23 @@ fn assembled(
         blocks: _,
     } = parts;
     let braces = block_of(alloc, block, members)?;
+    let further = Further::from_parts(
+        alloc,
+        FurtherParts {
+            attrs: own_attrs,
+            inherits,
+            extended,
+            uses: all_uses,
+            locals: all_locals,
+        },
+    )?;
     Ok(Item {
         span,
         after: after(span.end, next),
         kind,
-        attrs: own_attrs,
         names,
         bindings,
         block: braces,
-        inherits,
-        extended,
-        uses: all_uses,
-        locals: all_locals,
+        further,
     })
 }

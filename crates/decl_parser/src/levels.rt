@@ -97,6 +97,7 @@ pub fn insides_without(
 }
 
 /// Whether nothing stands inside the elements, but for that at the place.
+#[inline(always)]
 fn are_blank(text: &[u8], elements: &[Element], place: Option<usize>) -> bool
     ensures { result ≡ true → IsBlankList (length elements.now) (without place (insides text.now (forest_of elements.now))) }
 {
@@ -107,6 +108,7 @@ fn are_blank(text: &[u8], elements: &[Element], place: Option<usize>) -> bool
 }
 
 /// Whether nothing stands inside the elements before the place and behind it, where one stands there.
+#[inline(always)]
 fn are_blank_around(text: &[u8], elements: &[Element], place: usize) -> bool
     ensures { result ≡ true → IsBlankList (length elements.now) (without (Some place) (insides text.now (forest_of elements.now))) }
 {
@@ -118,6 +120,7 @@ fn are_blank_around(text: &[u8], elements: &[Element], place: usize) -> bool
 
 /// What stands inside each element, as `insides_without` lists it. There is no list where nothing stands inside any of
 /// them, and they are no more than `blanks`.
+#[inline(always)]
 pub fn listed_insides(
     alloc: Global,
     text: &[u8],

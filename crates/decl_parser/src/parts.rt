@@ -65,6 +65,7 @@ fn names_only(alloc: Global, names: SmallList<Span>) -> Parts
 }
 
 /// The parts of a declaration of the kind, by its starter and the elements behind that.
+#[inline(always)]
 pub fn parts_of(
     alloc: Global,
     text: &[u8],
@@ -264,6 +265,7 @@ fn with_body(
     })
 }
 
+#[inline(always)]
 fn of_variable(
     alloc: Global,
     text: &[u8],
@@ -300,6 +302,7 @@ fn variable_parts(alloc: Global, bounds: Vec<Bound>) -> Result<Parts, AllocError
 }
 
 /// The parts of a variable with this binding alone.
+#[inline(always)]
 fn one_variable(alloc: Global, bound: Bound) -> Result<Parts, Refusal<ParseFault>>
     ensures { Answers (λ parts. parts) result (λ outcome. outcome ≡ Ok (variable_parts (bound ∷ []))) }
 {

@@ -21,6 +21,7 @@ use swift_base::{SmallList, Span};
 use swift_lexer::Element;
 
 /// The names of the pattern that is the first of the elements.
+#[inline(always)]
 pub fn pattern_names(
     alloc: Global,
     text: &[u8],

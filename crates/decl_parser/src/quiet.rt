@@ -47,6 +47,7 @@ fn is_silent(text: &[u8], element: &Element) -> bool
 }
 
 /// Whether no use, no attribute and no accessor begins in the list.
+#[inline(always)]
 pub fn begins_nothing(text: &[u8], elements: &[Element]) -> bool
     ensures { result ≡ (is_quiet (forest_of elements.now) && not (may_list_accessors text.now (forest_of elements.now))) }
 {

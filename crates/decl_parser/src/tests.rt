@@ -96,13 +96,13 @@ impl<'a> Sketch<'a> {
     fn item(&mut self, item: &Item) -> Result<(), AllocError> {
         self.put(kind_text(item))?;
         self.spans(b" ", item.names.items())?;
-        if let Some(span) = item.extended {
+        if let Some(span) = item.further.extended() {
             self.span(b" of ", span)?;
         }
-        self.spans(b" : ", item.inherits.items())?;
-        self.attrs(b" @", item.attrs.items())?;
-        self.uses(b" ", item.uses.items())?;
-        self.attrs(b" ~", item.locals.items())?;
+        self.spans(b" : ", item.further.inherits())?;
+        self.attrs(b" @", item.further.attrs())?;
+        self.uses(b" ", item.further.uses())?;
+        self.attrs(b" ~", item.further.locals())?;
         for binding in item.bindings.items() {
             self.binding(binding)?;
         }

@@ -1,5 +1,5 @@
 -- What words are for in the grammar of declarations: this project's own, after The Swift Programming Language, Declarations and Statements.
-use Rattle.std.specs.Prelude.{ℕ, List, [], ◌∷◌, length, map, slice_index, slice_index_or, Bool, true, false, ◌==◌, nat_eq, if◌then◌else◌}
+use Rattle.std.specs.Prelude.{ℕ, ◌-◌, List, [], ◌∷◌, length, map, slice_index, slice_index_or, Bool, true, false, ◌==◌, nat_eq, if◌then◌else◌}
 use Rattle.std.specs.List.{list_any, starts_with}
 use Rattle.std.specs.Str.{bytes_eq}
 use Rattle.swift_lexer.specs.declared.strings.TheConstants.{BUILTIN_WORDS}
@@ -7,7 +7,7 @@ use Rattle.element_marks.specs.declared.words.Starter.{Starter}
 use Rattle.element_marks.specs.declared.words.Starter.TheVariants as starter
 use Rattle.element_marks.specs.declared.words.Keyword.{Keyword}
 use Rattle.element_marks.specs.declared.words.Keyword.TheVariants.{Plain, Modifier, AccessorModifier, Starts, Joining, Where, Condition, Accessor, Observer, Underscore, Async, Throws}
-use Rattle.element_marks.specs.declared.words.TheConstants.{FIRST_BYTES, RESERVED, WORDS}
+use Rattle.element_marks.specs.declared.words.TheConstants.{BEFORE_LETTERS, FIRST_BYTES, RESERVED, WORDS}
 
 -- by the first row of the word, where there is one
 abbrev pub keyword_in : {R : Type 0} → (R → List ℕ) → (R → Keyword) → List R → List ℕ → Keyword
@@ -19,7 +19,7 @@ keyword_of word = keyword_in (λ row. row.0.now) (λ row. row.1) WORDS word
 
 -- a word of the table is as long and begins with the same byte
 abbrev pub looks_like_keyword : List ℕ → Bool
-looks_like_keyword word = list_any (λ byte. byte == slice_index word 0) (slice_index_or (map (λ row. row.now) FIRST_BYTES) (length word) [])
+looks_like_keyword word = slice_index (slice_index_or (map (λ row. row.now) FIRST_BYTES) (length word) []) (slice_index word 0 - BEFORE_LETTERS) == slice_index word 0
 
 -- the word behind a `#` is one of Swift's own
 unfoldable pub is_builtin : List ℕ → Bool

@@ -55,6 +55,7 @@ fn mark_between(text: &[u8], token: Token, end: u32) -> Mark
     }
 }
 
+#[inline(always)]
 pub fn leaf_sort(class: Class, bytes: &[u8]) -> Sort
     requires { length bytes.now < 2 ^ 32 }
     ensures { result ≡ leaf_sort class bytes.now }
@@ -72,6 +73,7 @@ pub fn leaf_sort(class: Class, bytes: &[u8]) -> Sort
     }
 }
 
+#[inline(always)]
 pub fn leaf_keyword(class: Class, bytes: &[u8]) -> Keyword
     ensures { result ≡ leaf_keyword class bytes.now }
 {
@@ -82,7 +84,7 @@ pub fn leaf_keyword(class: Class, bytes: &[u8]) -> Keyword
 }
 
 /// The byte at a place, 0 past the end.
-fn byte_at(bytes: &[u8], at: usize) -> u8
+pub fn byte_at(bytes: &[u8], at: usize) -> u8
     ensures { result ≡ slice_index bytes.now at }
 {
     bytes.get(at).copied().unwrap_or(0)

@@ -32,6 +32,7 @@ fn is_quiet_class(class: Class) -> bool
 }
 
 /// Whether no element begins with a `#` word or an `@`.
+#[inline(always)]
 pub fn is_quiet(elements: &[Element]) -> bool
     ensures { result ≡ is_quiet (forest_of elements.now) }
 {
@@ -54,6 +55,7 @@ fn leads_accessor(keyword: Keyword) -> bool
 }
 
 /// Whether the first element may stand at an accessor's beginning, attributes aside.
+#[inline(always)]
 pub fn may_list_accessors(text: &[u8], elements: &[Element]) -> bool
     ensures { result ≡ may_list_accessors text.now (forest_of elements.now) }
 {

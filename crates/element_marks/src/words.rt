@@ -7,6 +7,7 @@ ghost use Rattle.std.specs.Option.{option_copied};
 ghost use Rattle.std.specs.Str.{bytes_eq};
 ghost use Rattle.element_marks.specs.Words.{keyword_in, keyword_of, looks_like_keyword, is_builtin, is_reserved, wants_name, is_modifier, is_joining, is_accessor, is_observer, is_operator_name, is_class_member, is_class, is_underscore, is_where, is_condition, is_async, is_throws, is_accessor_modifier};
 
+use crate::marks::byte_at;
 use swift_lexer::BUILTIN_WORDS;
 
 /// The words that begin a declaration.
@@ -166,37 +167,53 @@ pub const ROWS: [(usize, usize); 21] = [
     (71, 72),
 ];
 
-/// With which bytes the words of the table begin, by their length.
+/// With which bytes the words of the table begin, by their length: a byte stands at its place behind `_`, the byte
+/// before the letters.
 pub const FIRST_BYTES: [&[u8]; 21] = [
     b"",
     b"_",
-    b"ai",
-    b"fglstv",
-    b"cefilorw",
-    b"_acfgimw",
-    b"dimpst",
-    b"_dpuw",
-    b"imopr",
-    b"bcest",
+    b"..a.......i",
+    b".......fg....l......st.v",
+    b"....c.ef..i..l..o..r....w",
+    b"_.a.c..fg.i...m.........w",
+    b".....d....i...m..p..st",
+    b"_....d...........p....u.w",
+    b"..........i...m.op.r",
+    b"...bc.e.............st",
     b"",
-    b"_cdfn",
+    b"_...cd.f.......n",
     b"",
-    b"u",
-    b"a",
-    b"p",
-    b"",
-    b"",
+    b"......................u",
+    b"..a",
+    b".................p",
     b"",
     b"",
-    b"u",
+    b"",
+    b"",
+    b"......................u",
 ];
+
+pub const BEFORE_LETTERS: u8 = b'_';
 
 /// With what a name begins that only macros make.
 pub const RESERVED: &[u8] = b"$sX";
 
 /// What the word is for.
 #[tactic(auto, unfolding(crate::specs::Words::keyword_of))]
+#[inline(always)]
 pub fn keyword_of(word: &[u8]) -> Keyword
+    ensures { result ≡ keyword_of word.now }
+{
+    match word {
+        b"let" => Keyword::Starts(Starter::Let),
+        b"var" => Keyword::Starts(Starter::Var),
+        _ => by_table(word),
+    }
+}
+
+/// What the word is for, by the table.
+#[tactic(auto, unfolding(crate::specs::Words::keyword_of))]
+fn by_table(word: &[u8]) -> Keyword
     ensures { result ≡ keyword_of word.now }
 {
     if !looks_like_keyword(word) {
@@ -229,8 +246,9 @@ fn rows_between<'a>(
 fn looks_like_keyword(word: &[u8]) -> bool
     ensures { result ≡ looks_like_keyword word.now }
 {
-    let first = word.first().copied().unwrap_or(0);
-    row_at(&FIRST_BYTES, word.len()).contains(&first)
+    let first = byte_at(word, 0);
+    let place = first.saturating_sub(BEFORE_LETTERS);
+    byte_at(row_at(&FIRST_BYTES, word.len()), place as usize) == first
 }
 
 /// The row at a place; past the last, an empty one.

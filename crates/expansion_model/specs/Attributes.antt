@@ -28,7 +28,7 @@ pub record Carrier : Type 0 where
 
 -- a declaration of the code without its block
 abbrev pub head_of : Item → Head
-head_of i = let own = out-Item i in record { span = own.span; after = own.after; kind = own.kind; attrs = own.attrs; names = own.names; bindings = own.bindings; inherits = own.inherits; extended = own.extended; uses = own.uses; locals = own.locals }
+head_of i = let own = out-Item i in record { span = own.span; after = own.after; kind = own.kind; attrs = own.further.attrs; names = own.names; bindings = own.bindings; inherits = own.further.inherits; extended = own.further.extended; uses = own.further.uses; locals = own.further.locals }
 
 abbrev pub shape_in : Block → BlockShape
 shape_in b = (out-Block b).shape

@@ -191,6 +191,7 @@ fn put_attribute(
 }
 
 /// What stands at the attributes of a declaration.
+#[inline(always)]
 pub fn put_attributes(
     alloc: Global,
     text: &[u8],
@@ -202,7 +203,7 @@ pub fn put_attributes(
     ensures { IfOk result (λ _. sites.new.items
         ≡ sites.old.items ++ flat_map (attribute_sites text.now macros.now plugins.now (carrier item.now)) (carrier item.now).head.attrs) }
 {
-    let attributes = item.attrs.items();
+    let attributes = item.further.attrs();
     'attributes: for attribute in attributes {
         put_attribute(alloc, text, macros, plugins, item, attribute, sites)?;
     }
@@ -258,6 +259,7 @@ fn put_requests(
 }
 
 /// The requests of a declaration's attributes for one role, `count` each.
+#[inline(always)]
 #[tactic(auto, unfolding(crate::specs::Attributes::role_sites))]
 pub fn put_role(
     text: &[u8],
@@ -271,7 +273,7 @@ pub fn put_role(
     ensures { IfOk result (λ _. sites.new.items
         ≡ sites.old.items ++ role_sites text.now macros.now plugins.now (carrier item.now) wanted count) }
 {
-    let attributes = item.attrs.items();
+    let attributes = item.further.attrs();
     'attributes: for attribute in attributes {
         put_requests(text, macros, plugins, item, wanted, count, attribute, sites)?;
     }

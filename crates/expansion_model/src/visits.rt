@@ -51,6 +51,7 @@ fn put_local(
     add(sites, site)
 }
 
+#[inline(always)]
 fn put_locals(
     alloc: Global,
     text: &[u8],
@@ -81,6 +82,7 @@ fn before_use(macro_use: MacroUse, locals: &[Attr]) -> usize
 }
 
 /// Uses and local attributes by their offsets.
+#[inline(always)]
 fn put_own(
     alloc: Global,
     text: &[u8],
@@ -134,6 +136,7 @@ fn members_in(block: &Block) -> usize
     }
 }
 
+#[inline(always)]
 fn members_of(item: &Item) -> usize
     ensures { result ≡ members_of (item_of item.now) }
 {
@@ -144,6 +147,7 @@ fn members_of(item: &Item) -> usize
 }
 
 /// What is visited of a declaration before its members.
+#[inline(always)]
 #[tactic(auto, unfolding(crate::specs::Sites::sites_before))]
 fn put_before(
     alloc: Global,
@@ -169,7 +173,7 @@ fn put_before(
         sites,
     )?;
     put_role(text, macros, plugins, item, Role::Accessor, 1, sites)?;
-    let (uses, locals) = (item.uses.items(), item.locals.items());
+    let (uses, locals) = (item.further.uses(), item.further.locals());
     put_own(
         alloc,
         text,
@@ -183,6 +187,7 @@ fn put_before(
 }
 
 /// What is visited of it behind them.
+#[inline(always)]
 #[tactic(auto, unfolding(crate::specs::Sites::sites_behind))]
 fn put_behind(
     text: &[u8],

@@ -21,7 +21,7 @@ use Rattle.macro_decls.specs.declared.written.RoleWritten.{RoleWritten}
 
 -- a declaration of the code without its block
 abbrev pub head_of : Item → Head
-head_of i = let own = out-Item i in record { span = own.span; after = own.after; kind = own.kind; attrs = own.attrs; names = own.names; bindings = own.bindings; inherits = own.inherits; extended = own.extended; uses = own.uses; locals = own.locals }
+head_of i = let own = out-Item i in record { span = own.span; after = own.after; kind = own.kind; attrs = own.further.attrs; names = own.names; bindings = own.bindings; inherits = own.further.inherits; extended = own.further.extended; uses = own.further.uses; locals = own.further.locals }
 
 abbrev pub is_macro : Kind → Bool
 is_macro kind.Macro = true

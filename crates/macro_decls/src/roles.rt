@@ -213,7 +213,7 @@ fn macro_written(
     ensures { IfOk result (λ written. written ≡ macro_written outline text.now (head_of item.now)) }
 {
     let name = name_span(item);
-    let roles = roles_of(alloc, text, item.attrs.items())?;
+    let roles = roles_of(alloc, text, item.further.attrs())?;
     Ok(MacroWritten {
         outline,
         at: name.start,

@@ -8,7 +8,7 @@ use Rattle.swift_tree.specs.Outlines.{Head, BlockSeen, ItemSeen, item, block_fro
 use Rattle.result_reader.specs.Fit.{outer_head}
 
 head_of : Item-F Block Item → Head
-head_of i = record { span = i.span; after = i.after; kind = i.kind; attrs = i.attrs; names = i.names; bindings = i.bindings; inherits = i.inherits; extended = i.extended; uses = i.uses; locals = i.locals }
+head_of i = record { span = i.span; after = i.after; kind = i.kind; attrs = i.further.attrs; names = i.names; bindings = i.bindings; inherits = i.further.inherits; extended = i.further.extended; uses = i.further.uses; locals = i.further.locals }
 
 mapped : Item-F Block Item → Item-F BlockSeen ItemSeen
 mapped x = map-Item Block Item BlockSeen ItemSeen block_of item_of x
@@ -32,6 +32,6 @@ pub start_is : (i : Item) → (outer_head (item_of i)).span.start ≡ (out-Item 
 unfolding head_of
 start_is i = ap (λ seen. (outer_head seen).span.start) (item_of-is i)
 
-pub attrs_are : (i : Item) → (outer_head (item_of i)).attrs ≡ (out-Item i).attrs
+pub attrs_are : (i : Item) → (outer_head (item_of i)).attrs ≡ (out-Item i).further.attrs
 unfolding head_of
 attrs_are i = ap (λ seen. (outer_head seen).attrs) (item_of-is i)

@@ -77,7 +77,7 @@ fn start_of(item: &Item) -> u32
 fn attrs_of(item: &Item) -> &[Attr]
     ensures { result.now ≡ (outer_head (item_of item.now)).attrs }
 {
-    item.attrs.items()
+    item.further.attrs()
 }
 
 fn is_forbidden(file_scope: bool, text: &[u8], item: &Item) -> bool

@@ -13,7 +13,7 @@ use Rattle.swift_tree.specs.Outlines.{Head, ItemSeen, ItemsSeen, item, BlockSeen
 use Rattle.role_names.specs.DeclaredNames.{own_names, names_in_row, names_by_kind, member_names, declared_names}
 
 head_of : Item-F Block Item → Head
-head_of i = record { span = i.span; after = i.after; kind = i.kind; attrs = i.attrs; names = i.names; bindings = i.bindings; inherits = i.inherits; extended = i.extended; uses = i.uses; locals = i.locals }
+head_of i = record { span = i.span; after = i.after; kind = i.kind; attrs = i.further.attrs; names = i.names; bindings = i.bindings; inherits = i.further.inherits; extended = i.further.extended; uses = i.further.uses; locals = i.further.locals }
 
 mapped : Item-F Block Item → Item-F BlockSeen ItemSeen
 mapped x = map-Item Block Item BlockSeen ItemSeen block_of item_of x

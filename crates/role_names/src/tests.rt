@@ -3,8 +3,8 @@
 use crate::{NameList, NameRule, covers, declared_names};
 use std::alloc::{AllocError, Global};
 use std::test::Fail;
-use swift_base::{Listed, SmallList, Span, Text, ThinList};
-use swift_tree::{Block, BlockShape, Item, Kind};
+use swift_base::{Listed, SmallList, Span, Text};
+use swift_tree::{Block, BlockShape, Further, Item, Kind};
 
 #[derive(Clone, Copy)]
 enum Sort {
@@ -117,14 +117,10 @@ fn item(
         span: span(0),
         after: 1,
         kind,
-        attrs: ThinList::none(),
         names: SmallList::from_slice(alloc, names)?,
         bindings: SmallList::none(),
         block,
-        inherits: SmallList::none(),
-        extended: None,
-        uses: ThinList::none(),
-        locals: ThinList::none(),
+        further: Further::none(),
     })
 }
 

@@ -275,10 +275,15 @@ fn is_word_start(c: char) -> bool
     is_xid_start(c) || c == UNDERSCORE || c == DOLLAR
 }
 
+/// Of ASCII the same as in a number.
+#[inline(always)]
 #[tactic(auto, unfolding(crate::specs::Chars::is_word_part))]
 pub fn is_word_part(c: char) -> bool
     ensures { result ≡ is_word_part c }
 {
+    if c < '\u{80}' {
+        return is_number_part(c);
+    }
     is_xid_continue(c)
 }
 
@@ -290,6 +295,7 @@ pub fn is_name_start(c: char) -> bool
     is_word_start(c) && c != DOLLAR
 }
 
+#[inline(always)]
 #[tactic(auto, unfolding(crate::specs::Chars::is_number_part))]
 fn is_number_part(c: char) -> bool
     ensures { result ≡ is_number_part c }
@@ -356,6 +362,7 @@ fn is_right_bracket(c: char) -> bool
 }
 
 /// Whether the run goes on with the character.
+#[inline(always)]
 pub fn goes_on(run: Run, c: char) -> bool
     ensures { result ≡ goes_on run c }
 {

@@ -38,6 +38,7 @@ pub fn behind(text: &str) -> &str
 }
 
 /// Behind the longest run.
+#[inline(always)]
 pub fn after_run(text: &str, run: Run) -> &str
     ensures { chars result.now ≡ after_run (goes_on run) (chars text.now) }
 {

@@ -13,7 +13,7 @@ block_of-roll b = fold-roll-Block BlockSeen ItemSeen block_step item_step b
 
 -- a declaration by its parts
 abbrev with_block : Head → Option (Box Block Global) → Item-F Block Item
-with_block h b = record { span = h.span; after = h.after; kind = h.kind; attrs = h.attrs; names = h.names; bindings = h.bindings; block = b; inherits = h.inherits; extended = h.extended; uses = h.uses; locals = h.locals }
+with_block h b = record { span = h.span; after = h.after; kind = h.kind; names = h.names; bindings = h.bindings; block = b; further = record { attrs = h.attrs; inherits = h.inherits; extended = h.extended; uses = h.uses; locals = h.locals } }
 
 pub item_of-roll : (h : Head) (b : Option (Box Block Global)) → item_of (roll-Item (with_block h b)) ≡ item h (block_from (option_map block_of (unboxed b)))
 unfolding block_of item_of

@@ -57,7 +57,7 @@ abbrev pub block_step : Block-F BlockSeen ItemSeen → BlockSeen
 block_step b = block b.span b.shape (items_from b.members.items)
 
 abbrev pub item_step : Item-F BlockSeen ItemSeen → ItemSeen
-item_step i = item (record { span = i.span; after = i.after; kind = i.kind; attrs = i.attrs; names = i.names; bindings = i.bindings; inherits = i.inherits; extended = i.extended; uses = i.uses; locals = i.locals }) (block_from (unboxed i.block))
+item_step i = item (record { span = i.span; after = i.after; kind = i.kind; attrs = i.further.attrs; names = i.names; bindings = i.bindings; inherits = i.further.inherits; extended = i.further.extended; uses = i.further.uses; locals = i.further.locals }) (block_from (unboxed i.block))
 
 -- what a block stands for
 unfoldable pub block_of : Block → BlockSeen

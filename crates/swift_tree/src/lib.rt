@@ -6,5 +6,5 @@
 mod item;
 mod outline;
 
-pub use item::{Attr, Binding, Block, BlockShape, Item, Kind, MacroUse};
+pub use item::{Attr, Binding, Block, BlockShape, Further, FurtherParts, Item, Kind, MacroUse};
 pub use outline::{Outline, Shape};

@@ -1,4 +1,5 @@
 use Rattle.std.proofs.Common.{◌≡◌, ◌+◌, ◌-◌, ◌∙◌, ap, length, drop, map, Ok}
+use Rattle.swift_tree.specs.declared.item.Item.{roll-Item}
 use Rattle.swift_tree.specs.Outlines.{item, item_of}
 use Rattle.swift_tree.proofs.Folds.{item_of-roll}
 use Rattle.decl_parser.specs.Attributes.{span_from}
@@ -23,5 +24,6 @@ returns c =
     let locals : c.in_ok-all_locals.all_locals ≡ (found_from parts.blocks (from + head_of (drop from list)) list from 0 (length list - from) c.args.insides.now).locals = c.in_ok-all_locals.ensures ∙ ap (λ f. f.locals) found in
     let block : braces_seen c.in_ok-braces.braces ≡ block_of parts.block (map item_of c.args.members.items) = c.in_ok-braces.ensures in
     ap Ok (
-    item_of-roll (record { span = c.span_from-span.result; after = c.after.result; kind = c.args.kind; attrs = c.in_ok-own_attrs.own_attrs; names = parts.names; bindings = parts.bindings; inherits = parts.inherits; extended = parts.extended; uses = c.in_ok-all_uses.all_uses; locals = c.in_ok-all_locals.all_locals }) c.in_ok-braces.braces
+    ap (λ f. item_of (roll-Item (record { span = c.span_from-span.result; after = c.after.result; kind = c.args.kind; names = parts.names; bindings = parts.bindings; block = c.in_ok-braces.braces; further = f }))) c.in_ok-further.ensures
+    ∙ item_of-roll (record { span = c.span_from-span.result; after = c.after.result; kind = c.args.kind; attrs = c.in_ok-own_attrs.own_attrs; names = parts.names; bindings = parts.bindings; inherits = parts.inherits; extended = parts.extended; uses = c.in_ok-all_uses.all_uses; locals = c.in_ok-all_locals.all_locals }) c.in_ok-braces.braces
     ∙ (λ i. item (record { span = span i; after = end i; kind = c.args.kind; attrs = attrs i; names = parts.names; bindings = parts.bindings; inherits = parts.inherits; extended = parts.extended; uses = uses i; locals = locals i }) (block i)))

@@ -1,7 +1,7 @@
 use Rattle.std.proofs.Common.{◌∙◌, ap, sym, slice_range}
 use Rattle.element_marks.specs.Words.{keyword_in}
 use Rattle.element_marks.proofs.Rows.{keyword_between, keyword_paired, no_keyword, paired, paired_range, words}
-use Rattle.element_marks.proofs.words.keyword_of.Goals as goal
+use Rattle.element_marks.proofs.words.by_table.Goals as goal
 
 pub returns-then-not-looks_like_keyword : goal.returns-then-not-looks_like_keyword
 returns-then-not-looks_like_keyword c = sym (no_keyword c.args.word.now (sym c.if-not-looks_like_keyword.ensures))
