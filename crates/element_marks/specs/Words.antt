@@ -17,7 +17,7 @@ keyword_in spelling keyword (row ∷ rows) word = if bytes_eq (spelling row) wor
 unfoldable pub keyword_of : List ℕ → Keyword
 keyword_of word = keyword_in (λ row. row.0.now) (λ row. row.1) WORDS word
 
--- a word of the table is as long and begins with the same byte
+-- true where a word of the table is as long and begins with the same byte
 abbrev pub looks_like_keyword : List ℕ → Bool
 looks_like_keyword word = slice_index (slice_index_or (map (λ row. row.now) FIRST_BYTES) (length word) []) (slice_index word 0 - BEFORE_LETTERS) == slice_index word 0
 

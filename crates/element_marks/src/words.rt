@@ -167,8 +167,8 @@ pub const ROWS: [(usize, usize); 21] = [
     (71, 72),
 ];
 
-/// With which bytes the words of the table begin, by their length: a byte stands at its place behind `_`, the byte
-/// before the letters.
+/// With which bytes the words of the table begin, by their length: each byte stands as many places behind the first as
+/// it is greater than `_`, with dots between.
 pub const FIRST_BYTES: [&[u8]; 21] = [
     b"",
     b"_",
@@ -242,7 +242,7 @@ fn rows_between<'a>(
     &rows[from..to]
 }
 
-/// Whether a word of the table is as long as this one and begins with the same byte.
+/// True where a word of the table is as long as this one and begins with the same byte.
 fn looks_like_keyword(word: &[u8]) -> bool
     ensures { result ≡ looks_like_keyword word.now }
 {
