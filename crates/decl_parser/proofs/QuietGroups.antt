@@ -103,7 +103,7 @@ unfolding inside_of
 blank_leaf text (leaf token) is = refl
 blank_leaf text (nest left inner right) is = cc
 
-nothing_within : (insides : List Inside) → AreBlank insides → nothing ≡ all_within insides
+pub nothing_within : (insides : List Inside) → AreBlank insides → nothing ≡ all_within insides
 nothing_within [] empty = refl
 nothing_within (inside ∷ insides) empty =
     nothing_within insides empty.1

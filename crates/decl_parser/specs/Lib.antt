@@ -13,3 +13,4 @@ pub mod Nesting
 pub mod Outline
 pub mod Parts
 pub mod Places
+pub mod Plain

@@ -1,12 +1,13 @@
 // Macro uses and attributes by their elements.
 
 ghost use Rattle.std.specs.Prelude.{◌≡◌, ◌≤◌, IfOk, length};
+ghost use Rattle.decl_parser.specs.Cut.{after};
 ghost use Rattle.decl_parser.specs.Attributes.{args_place, args_span, args_uses, attr_of, attribute_name, pound_name, span_from, use_of};
 
 use crate::inside::{Inside, first_uses};
 use crate::lists::{behind, upto};
 use element_marks::{
-    Mark, attribute_length, behind_first, dots_length, first_angles, is_parentheses, name_of,
+    Mark, attribute_length, behind_first, dots_length, first_angles, is_parentheses, is_semicolon, name_of,
     span_of, whole,
 };
 use std::alloc::{AllocError, Global};
@@ -20,6 +21,16 @@ pub fn span_from(marks: &[Mark]) -> Span
     ensures { result ≡ span_from marks.now }
 {
     whole(marks).unwrap_or(NOWHERE)
+}
+
+/// The end of a `;` that stands first, else this one.
+pub fn after(end: u32, next: &[Mark]) -> u32
+    ensures { result ≡ after end next.now }
+{
+    match next.first() {
+        Some(mark) if is_semicolon(mark) => mark.end,
+        _ => end,
+    }
 }
 
 fn pound_name(marks: &[Mark]) -> Span

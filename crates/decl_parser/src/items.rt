@@ -1,24 +1,26 @@
 // Lists of elements cut into declarations.
 
-ghost use Rattle.std.specs.Prelude.{◌≡◌, ◌<◌, ◌≤◌, ◌+◌, ℕ, List, Ok, Some, IfOk, drop, length, map, option_map};
+ghost use Rattle.std.specs.Prelude.{◌≡◌, ◌<◌, ◌≤◌, ◌+◌, ℕ, List, Ok, Some, IfOk, IfSome, drop, length, map, option_map};
 ghost use Rattle.swift_lexer.specs.Trees.{forest_of};
 ghost use Rattle.swift_tree.specs.Outlines.{item_of};
 ghost use Rattle.element_marks.specs.Answers.{Answers};
 ghost use Rattle.element_marks.specs.Heads.{first_is};
 ghost use Rattle.element_marks.specs.Sorts.{is_semicolon};
-ghost use Rattle.decl_parser.specs.Cut.{after, all_ends, beginning, block_of, braces_seen, closed, count_of, ends, head_of, item_at, kind_of, members_at, members_place, nothing_more, start_of, starter_of, use_ends, use_fits, whole_item, word_kind};
+ghost use Rattle.decl_parser.specs.Cut.{all_ends, beginning, block_of, braces_seen, closed, count_of, ends, head_of, item_at, kind_of, members_at, members_place, nothing_more, start_of, starter_of, use_ends, use_fits, whole_item, word_kind};
+ghost use Rattle.decl_parser.specs.declared.place.Place.{Place};
 ghost use Rattle.decl_parser.specs.Insides.{AreBlank};
 ghost use Rattle.decl_parser.specs.Parts.{parts};
 ghost use Rattle.decl_parser.specs.Levels.{forest_size, held, insides, items_of_list, members_by};
 
-use crate::attributes::span_from;
+use crate::attributes::{after, span_from};
 use crate::fault::{ParseFault, ParseKind, fault};
 use crate::found::{Findings, Search, found};
 use crate::inside::{BlockAt, Inside};
-use crate::levels::{group_inside, listed_insides, listed_or};
+use crate::levels::{are_blank, group_inside, listed_insides, listed_or};
 use crate::lists::{add, behind, upto};
 use crate::parts::{Parts, has_members, parts_of};
 use crate::place::{Place, has_place};
+use crate::plain::plain_variable;
 use element_marks::{
     Blocks, Keyword, Mark, Starter, before_braces, is_builtin_pound, is_pound, is_semicolon,
     item_length, marks_in, use_length,
@@ -127,8 +129,40 @@ fn first_semicolon(marks: &[Mark]) -> bool
 
 /// The declaration that the elements are, or its first fault; `next` stands behind it.
 #[cycle(items)]
-#[tactic(auto, unfolding(crate::specs::Cut::item_at))]
 fn item_at(
+    alloc: Global,
+    own: Own,
+    next: &[Mark],
+    place: Place,
+) -> Result<Item, Refusal<ParseFault>>
+    requires within { own.from ≤ length own.list.now }
+    requires blank { AreBlank own.blanks.now }
+    ensures { Answers item_of result (λ outcome. outcome ≡ item_at place own.entry.list.now own.entry.from next.now (insides own.entry.text.now (forest_of own.entry.elements.now)) (held own.entry.text.now (forest_of own.entry.elements.now))) }
+{
+    match blank_variable(own, next) {
+        Some(item) => Ok(item),
+        None => any_item_at(alloc, own, next, place),
+    }
+}
+
+/// The declaration, where it is a plain variable and nothing stands inside its elements.
+#[inline(always)]
+fn blank_variable(own: Own, next: &[Mark]) -> Option<Item>
+    requires { own.from ≤ length own.list.now }
+    ensures { IfSome result (λ item. (place : Place) → Ok (item_of item) ≡ item_at place own.entry.list.now own.entry.from next.now (insides own.entry.text.now (forest_of own.entry.elements.now)) (held own.entry.text.now (forest_of own.entry.elements.now))) }
+{
+    let marks = behind(own.list, own.from);
+    let item = plain_variable(marks, next)?;
+    if own.elements.len() > marks.len() || !are_blank(own.text, own.elements, None) {
+        return None;
+    }
+    Some(item)
+}
+
+/// The declaration that the elements are, whatever it is, or its first fault.
+#[cycle(items)]
+#[tactic(auto, unfolding(crate::specs::Cut::item_at))]
+fn any_item_at(
     alloc: Global,
     own: Own,
     next: &[Mark],
@@ -328,16 +362,6 @@ fn ends(own: &[Mark]) -> Result<(), Refusal<ParseFault>>
     match own.last() {
         Some(mark) if mark.joins => Err(fault(mark.start, ParseKind::DanglingJoiner)),
         _ => Ok(()),
-    }
-}
-
-/// The end of a `;` that stands first, else this one.
-fn after(end: u32, next: &[Mark]) -> u32
-    ensures { result ≡ after end next.now }
-{
-    match next.first() {
-        Some(mark) if is_semicolon(mark) => mark.end,
-        _ => end,
     }
 }
 

@@ -98,7 +98,7 @@ pub fn insides_without(
 
 /// Whether nothing stands inside the elements, but for that at the place.
 #[inline(always)]
-fn are_blank(text: &[u8], elements: &[Element], place: Option<usize>) -> bool
+pub fn are_blank(text: &[u8], elements: &[Element], place: Option<usize>) -> bool
     ensures { result ≡ true → IsBlankList (length elements.now) (without place (insides text.now (forest_of elements.now))) }
 {
     match place {

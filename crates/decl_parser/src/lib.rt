@@ -18,6 +18,7 @@ mod parse;
 mod parts;
 mod pattern;
 mod place;
+mod plain;
 mod quiet;
 
 pub use fault::{ParseFault, ParseKind};

@@ -41,8 +41,8 @@ items-item_at-requires n c =
     let count = c.count_of-count.result in
     let own : c.upto-else-head_of-eq0.result.now ≡ take count (drop at elements) = c.upto-else-head_of-eq0.ensures ∙ ap (take count) c.behind.ensures in
     let list : c.upto.result.now ≡ take (at + count) marks = c.upto.ensures ∙ ap (take (at + count)) c.deref-else-head_of-eq0.ensures.value in
-    let measure : 3 * forest_size (forest_of elements) + 2 ≡ n = c.decreases in
-    let falls : 3 * forest_size (forest_of c.upto-else-head_of-eq0.result.now) + 1 < n =
+    let measure : 4 * forest_size (forest_of elements) + 3 ≡ n = c.decreases in
+    let falls : 4 * forest_size (forest_of c.upto-else-head_of-eq0.result.now) + 2 < n =
     omega (arith, measure, ap (λ es. forest_size (forest_of es)) own, size_take count (drop at elements), size_drop at elements) in
     (falls, (omega (arith, ap length list, within_front at count marks within), c.requires))
 

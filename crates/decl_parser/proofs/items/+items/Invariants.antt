@@ -7,13 +7,16 @@ use Rattle.decl_parser.specs.Levels.{forest_size, held, insides}
 use Rattle.decl_parser.proofs.items.+items.Given as goal
 
 abbrev pub decreases-item_at : goal.decreases-item_at
-decreases-item_at l = 3 * forest_size (forest_of l.own.elements.now) + 1
+decreases-item_at l = 4 * forest_size (forest_of l.own.elements.now) + 2
+
+abbrev pub decreases-any_item_at : goal.decreases-any_item_at
+decreases-any_item_at l = 4 * forest_size (forest_of l.own.elements.now) + 1
 
 abbrev pub decreases-items : goal.decreases-items
-decreases-items l = 3 * forest_size (forest_of l.elements.now) + 2
+decreases-items l = 4 * forest_size (forest_of l.elements.now) + 3
 
 abbrev pub decreases-members_at : goal.decreases-members_at
-decreases-members_at l = 3 * forest_size (forest_of l.elements.now)
+decreases-members_at l = 4 * forest_size (forest_of l.elements.now)
 
 abbrev pub invariant-items-items : goal.invariant-items-items
 invariant-items-items l =
