@@ -2,7 +2,7 @@
 use Rattle.std.specs.Prelude.{◌≡◌, ℕ, ◌+◌, List, [], ◌∷◌, slice_get, Bool, ◌&&◌, not, if◌then◌else◌}
 use Rattle.element_marks.specs.declared.mark.Mark.{Mark}
 use Rattle.element_marks.specs.Words.{may_begin, starts_anywhere}
-use Rattle.element_marks.specs.Sorts.{is_at, is_pound}
+use Rattle.element_marks.specs.Sorts.{is_at, is_at_or_pound}
 use Rattle.element_marks.specs.Heads.{head, modifies_before}
 
 -- how many `<` and how many `>` the elements have
@@ -21,7 +21,7 @@ HeadsKnown (mark ∷ marks) = (mark.head ≡ head (mark ∷ marks)) × HeadsKnow
 
 -- no attribute, angle part, modifier or starter begins with the element
 abbrev pub begins_nothing : Mark → Bool
-begins_nothing mark = not (is_at mark) && not (is_pound mark) && not mark.begins_angle && not (may_begin mark.keyword)
+begins_nothing mark = not (is_at_or_pound mark) && not mark.begins_angle && not (may_begin mark.keyword)
 
 -- the element is a starter, and begins nothing else
 abbrev pub begins_alone : Mark → Bool

@@ -9,7 +9,7 @@ ghost use Rattle.element_marks.specs.Levels.{level, own_marks};
 use crate::heads::{head, modifies};
 use crate::mark::Mark;
 use crate::marks::{joins, mark_of};
-use crate::sorts::{is_at, is_pound};
+use crate::sorts::{is_at, is_at_or_pound};
 use crate::words::{may_begin, starts_anywhere};
 use std::alloc::{AllocError, Global};
 use swift_lexer::Element;
@@ -125,7 +125,7 @@ fn settle(end: u32, at: usize, marks: &mut [Mark])
 fn begins_nothing(mark: &Mark) -> bool
     ensures { result ≡ begins_nothing mark.now }
 {
-    !is_at(mark) && !is_pound(mark) && !mark.begins_angle && !may_begin(mark.keyword)
+    !is_at_or_pound(mark) && !mark.begins_angle && !may_begin(mark.keyword)
 }
 
 /// Whether the element is a starter wherever it stands, and nothing else.
@@ -147,6 +147,7 @@ fn set_alone(mark: &mut Mark, count: u32)
 }
 
 /// Sets any element.
+#[inline(never)]
 fn settle_by_next(end: u32, at: usize, marks: &mut [Mark])
     requires within { at < length marks.old }
     requires short { length marks.old < 2 ^ 32 }
