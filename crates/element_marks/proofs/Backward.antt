@@ -1,5 +1,5 @@
 -- Passes over a list from its last element to its first: what stands before a place is as it was.
-use Rattle.std.proofs.Common.{◌≡◌, refl, ℕ, zero, suc, ◌-◌, ◌<◌, ◌≤◌, ◌∙◌, ap, sym, subst, arith, List, [], ◌∷◌, ◌++◌, append-nil, length, get_or, take, take_all, drop, drop_of_length-le, set, false}
+use Rattle.std.proofs.Common.{◌≡◌, refl, ℕ, zero, suc, ◌-◌, ◌<◌, ◌≤◌, ◌∙◌, ap, sym, subst, arith, List, [], ◌∷◌, ◌++◌, append-nil, length, get_or, take, take_all, drop, drop_of_length-le, set, slice_get, false}
 use Rattle.element_marks.specs.declared.words.Keyword.TheVariants.{Plain}
 use Rattle.element_marks.specs.declared.mark.Sort.TheVariants as sort
 use Rattle.element_marks.specs.declared.mark.Mark.{Mark}
@@ -34,11 +34,6 @@ all_left pass marks none =
     ∙ append-nil (take (length marks) marks)
     ∙ take_all (length marks) marks (omega arith))
 
-finish_set : {A : Type 0} (at : ℕ) (marks rest : List A) (new : A) → at < length marks → set (take (suc at) marks ++ rest) at new ≡ take at marks ++ new ∷ rest
-finish_set at [] rest new within = absurd (omega (arith, within))
-finish_set zero (mark ∷ marks) rest new within = refl
-finish_set (suc at) (mark ∷ marks) rest new within = ap (λ l. mark ∷ l) (finish_set at marks rest new (omega (arith, within)))
-
 finish_drop : {A : Type 0} (at : ℕ) (marks rest : List A) (d : A) → at < length marks → drop at (take (suc at) marks ++ rest) ≡ get_or (take (suc at) marks ++ rest) at d ∷ rest
 finish_drop at [] rest d within = absurd (omega (arith, within))
 finish_drop zero (mark ∷ marks) rest d within = refl
@@ -65,33 +60,40 @@ behind_is pass (suc at) marks now d some within is =
     subst (λ n. drop n now ≡ get_or now n d ∷ pass (drop (suc at) marks)) before
     (ap (drop at) is ∙ finish_drop at marks (pass (drop (suc at) marks)) d (omega (arith, within)) ∙ ap (λ l. get_or l at d ∷ pass (drop (suc at) marks)) (sym is))
 
--- one element more is done
-pub one_more : {A : Type 0} (pass : List A → List A) (at : ℕ) (marks now : List A) (new : A) → 0 < at → at ≤ length marks → now ≡ finished pass at marks → pass (drop (at - 1) marks) ≡ new ∷ pass (drop at marks) → set now (at - 1) new ≡ finished pass (at - 1) marks
-one_more pass zero marks now new some within is step = absurd (omega (arith, some))
-one_more pass (suc at) marks now new some within is step =
-    let before : suc at - 1 ≡ at = omega arith in
-    let here : pass (drop at marks) ≡ new ∷ pass (drop (suc at) marks) = ap (λ n. pass (drop n marks)) (sym before) ∙ step in
-    subst (λ n. set now n new ≡ finished pass n marks) (sym before)
-    (ap (λ l. set l at new) is
-    ∙ finish_set at marks (pass (drop (suc at) marks)) new (omega (arith, within))
-    ∙ ap (λ l. take at marks ++ l) (sym here))
-
-drop_finished : {A : Type 0} (at : ℕ) (marks rest : List A) → at < length marks → drop at (take at marks ++ rest) ≡ rest
-drop_finished at [] rest within = absurd (omega (arith, within))
-drop_finished zero (mark ∷ marks) rest within = refl
-drop_finished (suc at) (mark ∷ marks) rest within = drop_finished at marks rest (omega (arith, within))
-
--- the element before the place and what stands behind it, once that element is set
-pub behind_set : {A : Type 0} (pass : List A → List A) (at : ℕ) (marks now : List A) (new : A) → 0 < at → at ≤ length marks → now ≡ finished pass at marks → drop (at - 1) (set now (at - 1) new) ≡ new ∷ pass (drop at marks)
-behind_set pass zero marks now new some within is = absurd (omega (arith, some))
-behind_set pass (suc at) marks now new some within is =
-    let before : at ≡ suc at - 1 = omega arith in
-    subst (λ n. drop n (set now n new) ≡ new ∷ pass (drop (suc at) marks)) before
-    (ap (λ l. drop at (set l at new)) is
-    ∙ ap (drop at) (finish_set at marks (pass (drop (suc at) marks)) new (omega (arith, within)))
-    ∙ drop_finished at marks (new ∷ pass (drop (suc at) marks)) (omega (arith, within)))
-
 pub set_twice : {A : Type 0} (at : ℕ) (marks : List A) (one other : A) → set (set marks at one) at other ≡ set marks at other
 set_twice at [] one other = refl
 set_twice zero (mark ∷ marks) one other = refl
 set_twice (suc at) (mark ∷ marks) one other = ap (λ l. mark ∷ l) (set_twice at marks one other)
+
+pub set_as : {A : Type 0} (at : ℕ) (marks : List A) (new : A) → at < length marks → set marks at new ≡ take at marks ++ new ∷ drop (suc at) marks
+set_as at [] new within = absurd (omega (arith, within))
+set_as zero (mark ∷ marks) new within = refl
+set_as (suc at) (mark ∷ marks) new within = ap (λ l. mark ∷ l) (set_as at marks new (omega (arith, within)))
+
+taken : {A : Type 0} (at : ℕ) (marks rest : List A) → at < length marks → take at (take (suc at) marks ++ rest) ≡ take at marks
+taken at [] rest within = absurd (omega (arith, within))
+taken zero (mark ∷ marks) rest within = refl
+taken (suc at) (mark ∷ marks) rest within = ap (λ l. mark ∷ l) (taken at marks rest (omega (arith, within)))
+
+-- what stands before the element before the place is as it was
+pub before_is : {A : Type 0} (pass : List A → List A) (at : ℕ) (marks now : List A) → 0 < at → at ≤ length marks → now ≡ finished pass at marks → take (at - 1) now ≡ take (at - 1) marks
+before_is pass zero marks now some within is = absurd (omega (arith, some))
+before_is pass (suc at) marks now some within is =
+    let before : at ≡ suc at - 1 = omega arith in
+    subst (λ n. take n now ≡ take n marks) before
+    (ap (take at) is ∙ taken at marks (pass (drop (suc at) marks)) (omega (arith, within)))
+
+left : {A : Type 0} (at : ℕ) (marks rest : List A) → at ≤ length marks → drop at (take at marks ++ rest) ≡ rest
+left zero marks rest within = refl
+left (suc at) [] rest within = absurd (omega (arith, within))
+left (suc at) (mark ∷ marks) rest within = left at marks rest (omega (arith, within))
+
+-- what stands from the place on is done
+pub left_is : {A : Type 0} (pass : List A → List A) (at : ℕ) (marks now : List A) → at ≤ length marks → now ≡ finished pass at marks → drop at now ≡ pass (drop at marks)
+left_is pass at marks now within is = ap (drop at) is ∙ left at marks (pass (drop at marks)) within
+
+-- the element at a place is the first of those behind as many
+pub first_left : {A : Type 0} (at : ℕ) (marks : List A) → slice_get marks at ≡ slice_get (drop at marks) 0
+first_left zero marks = refl
+first_left (suc at) [] = refl
+first_left (suc at) (mark ∷ marks) = first_left at marks

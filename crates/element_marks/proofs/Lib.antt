@@ -5,5 +5,6 @@ pub mod Further
 pub mod Quieter
 pub mod Rows
 pub mod Searched
+pub mod Settling
 pub mod Starting
 pub mod Walks

@@ -1,5 +1,5 @@
 -- Elements by what they are: this project's own words.
-use Rattle.std.specs.Prelude.{Bool, true, false, ◌&&◌, not}
+use Rattle.std.specs.Prelude.{Bool, true, false, ◌&&◌, ◌||◌, not}
 use Rattle.element_marks.specs.declared.mark.Mark.{Mark}
 use Rattle.element_marks.specs.declared.mark.Sort.{Sort}
 use Rattle.element_marks.specs.declared.mark.Sort.TheVariants as sort
@@ -126,3 +126,7 @@ is_pattern mark = is_pattern_sort mark.sort
 -- arguments stand on the line of what they belong to
 abbrev pub is_arguments : Mark → Bool
 is_arguments mark = is_parentheses mark && not mark.first
+
+-- begins with an `@` or a `#`
+abbrev pub is_at_or_pound : Mark → Bool
+is_at_or_pound mark = is_at mark || is_pound mark

@@ -99,3 +99,18 @@ is_throws _ = false
 abbrev pub is_accessor_modifier : Keyword → Bool
 is_accessor_modifier AccessorModifier = true
 is_accessor_modifier _ = false
+
+-- a modifier, or a starter if only before a name
+abbrev pub may_begin : Keyword → Bool
+may_begin Modifier = true
+may_begin AccessorModifier = true
+may_begin (Starts starter) = true
+may_begin _ = false
+
+-- begins a declaration whatever follows
+abbrev pub starts_anywhere : Keyword → Bool
+starts_anywhere (Starts starter.Class) = false
+starts_anywhere (Starts starter.Actor) = false
+starts_anywhere (Starts starter.Macro) = false
+starts_anywhere (Starts _) = true
+starts_anywhere _ = false

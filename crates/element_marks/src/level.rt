@@ -1,14 +1,16 @@
 // The elements of a list, each by its own text and by its neighbours.
 
-ghost use Rattle.std.specs.Prelude.{◌≡◌, ◌+◌, ◌-◌, ◌<◌, ◌≤◌, ◌^◌, length, replicate, None, IfOk, if◌then◌else◌};
+ghost use Rattle.std.specs.Prelude.{◌≡◌, ◌+◌, ◌-◌, ◌<◌, ◌≤◌, ◌^◌, ◌++◌, drop, length, replicate, slice_get, take, None, IfOk, false, if◌then◌else◌};
 ghost use Rattle.swift_lexer.specs.Trees.{forest_of};
 ghost use Rattle.element_marks.specs.Heads.{with_angles, with_heads, with_joins, with_modifiers};
-ghost use Rattle.element_marks.specs.Passes.{closes_of, opens_of};
+ghost use Rattle.element_marks.specs.Passes.{HeadsKnown, begins_alone, begins_nothing, closes_of, first_settled, opens_of};
 ghost use Rattle.element_marks.specs.Levels.{level, own_marks};
 
 use crate::heads::{head, modifies};
 use crate::mark::Mark;
 use crate::marks::{joins, mark_of};
+use crate::sorts::{is_at, is_at_or_pound};
+use crate::words::{may_begin, starts_anywhere};
 use std::alloc::{AllocError, Global};
 use swift_lexer::Element;
 
@@ -82,30 +84,93 @@ fn set_neighbours(behind: &mut [u32], opened: usize, marks: &mut [Mark])
     ensures { marks.new ≡ with_heads (with_modifiers (with_angles marks.old)) }
 {
     let mut depth = opened;
-    let mut next = None;
     let mut at = marks.len();
     'elements: while at > 0 {
         behind[depth] = at as u32;
         at -= 1;
-        let mut mark = marks[at];
-        depth = depth_before(depth, mark);
-        mark.angles = angle_part(mark.begins_angle, behind[depth], at);
-        mark.modifies = modifies(&mark, next);
-        next = Some(mark);
-        marks[at] = mark;
-        let count = head(&marks[at..]);
-        mark.head = count as u32;
-        marks[at] = mark;
+        depth = depth_before(depth, &marks[at]);
+        settle(behind[depth], at, marks);
     }
 }
 
 /// The angle depth before the element, by that behind it.
-fn depth_before(depth: usize, mark: Mark) -> usize
+#[inline(always)]
+fn depth_before(depth: usize, mark: &Mark) -> usize
     requires small { depth < 2 ^ 33 }
-    requires not_below { mark.opens ≤ depth + mark.closes }
-    ensures { result + mark.opens ≡ depth + mark.closes }
+    requires not_below { mark.now.opens ≤ depth + mark.now.closes }
+    ensures { result + mark.now.opens ≡ depth + mark.now.closes }
 {
     depth + mark.closes as usize - mark.opens as usize
+}
+
+/// Sets the element at a place by those behind it, which are set: its angle part, if it begins one, leads to `end`.
+#[inline(always)]
+fn settle(end: u32, at: usize, marks: &mut [Mark])
+    requires within { at < length marks.old }
+    requires short { length marks.old < 2 ^ 32 }
+    requires known { HeadsKnown (drop (at + 1) marks.old) }
+    ensures { marks.new ≡ take at marks.old ++ first_settled (end - at) (drop at marks.old) }
+{
+    if begins_nothing(&marks[at]) {
+        set_alone(&mut marks[at], 0);
+    } else if begins_alone(&marks[at]) {
+        set_alone(&mut marks[at], 1);
+    } else {
+        settle_by_next(end, at, marks);
+    }
+}
+
+/// Whether no attribute, angle part, modifier or starter begins with the element, as with nearly all.
+#[inline(always)]
+fn begins_nothing(mark: &Mark) -> bool
+    ensures { result ≡ begins_nothing mark.now }
+{
+    !is_at_or_pound(mark) && !mark.begins_angle && !may_begin(mark.keyword)
+}
+
+/// Whether the element is a starter wherever it stands, and nothing else.
+#[inline(always)]
+fn begins_alone(mark: &Mark) -> bool
+    ensures { result ≡ begins_alone mark.now }
+{
+    !is_at(mark) && !mark.begins_angle && starts_anywhere(mark.keyword)
+}
+
+/// Sets an element that begins no angle part and is no modifier.
+#[inline(always)]
+fn set_alone(mark: &mut Mark, count: u32)
+    ensures { mark.new ≡ record mark.old { angles = 0; modifies = false; head = count } }
+{
+    mark.angles = 0;
+    mark.modifies = false;
+    mark.head = count;
+}
+
+/// Sets any element.
+#[inline(never)]
+fn settle_by_next(end: u32, at: usize, marks: &mut [Mark])
+    requires within { at < length marks.old }
+    requires short { length marks.old < 2 ^ 32 }
+    requires known { HeadsKnown (drop (at + 1) marks.old) }
+    ensures { marks.new ≡ take at marks.old ++ first_settled (end - at) (drop at marks.old) }
+{
+    let mut mark = marks[at];
+    let next = mark_at(marks, at + 1);
+    mark.angles = angle_part(mark.begins_angle, end, at);
+    mark.modifies = modifies(&mark, next);
+    marks[at] = mark;
+    let count = head(&marks[at..]);
+    mark.head = count as u32;
+    marks[at] = mark;
+}
+
+fn mark_at(marks: &[Mark], at: usize) -> Option<Mark>
+    ensures { result ≡ slice_get marks.now at }
+{
+    match marks.get(at) {
+        Some(mark) => Some(*mark),
+        None => None,
+    }
 }
 
 fn angle_part(begins: bool, end: u32, at: usize) -> u32

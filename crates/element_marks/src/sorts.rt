@@ -1,7 +1,7 @@
 // What an element is.
 
 ghost use Rattle.std.specs.Prelude.{◌≡◌};
-ghost use Rattle.element_marks.specs.Sorts.{is_word, is_quoted, is_name, is_pound, is_builtin_pound, is_use, is_at, is_comma, is_colon, is_semicolon, is_dot, is_equals, is_operator, is_parentheses, is_braces, is_pattern};
+ghost use Rattle.element_marks.specs.Sorts.{is_word, is_quoted, is_name, is_pound, is_builtin_pound, is_use, is_at, is_comma, is_colon, is_semicolon, is_dot, is_equals, is_operator, is_parentheses, is_braces, is_pattern, is_at_or_pound};
 
 use crate::mark::{Mark, Sort};
 
@@ -99,4 +99,11 @@ pub fn is_pattern(mark: &Mark) -> bool
     ensures { result ≡ is_pattern mark.now }
 {
     matches!(mark.sort, Sort::Word | Sort::Quoted | Sort::Parentheses)
+}
+
+/// Whether it begins with an `@` or a `#`.
+pub fn is_at_or_pound(mark: &Mark) -> bool
+    ensures { result ≡ is_at_or_pound mark.now }
+{
+    matches!(mark.sort, Sort::Pound | Sort::BuiltinPound | Sort::At)
 }

@@ -5,7 +5,7 @@ ghost use Rattle.std.specs.Prelude.{[], find, map, slice_index_or, slice_range};
 ghost use Rattle.std.specs.List.{list_any};
 ghost use Rattle.std.specs.Option.{option_copied};
 ghost use Rattle.std.specs.Str.{bytes_eq};
-ghost use Rattle.element_marks.specs.Words.{keyword_in, keyword_of, looks_like_keyword, is_builtin, is_reserved, wants_name, is_modifier, is_joining, is_accessor, is_observer, is_operator_name, is_class_member, is_class, is_underscore, is_where, is_condition, is_async, is_throws, is_accessor_modifier};
+ghost use Rattle.element_marks.specs.Words.{keyword_in, keyword_of, looks_like_keyword, is_builtin, is_reserved, wants_name, is_modifier, is_joining, is_accessor, is_observer, is_operator_name, is_class_member, is_class, is_underscore, is_where, is_condition, is_async, is_throws, is_accessor_modifier, may_begin, starts_anywhere};
 
 use crate::marks::byte_at;
 use swift_lexer::BUILTIN_WORDS;
@@ -397,4 +397,29 @@ pub fn is_accessor_modifier(keyword: Keyword) -> bool
     ensures { result ≡ is_accessor_modifier keyword }
 {
     matches!(keyword, Keyword::AccessorModifier)
+}
+
+/// Whether the word is a modifier or begins a declaration, if only where a name follows.
+#[inline(always)]
+pub fn may_begin(keyword: Keyword) -> bool
+    ensures { result ≡ may_begin keyword }
+{
+    matches!(
+        keyword,
+        Keyword::Modifier | Keyword::AccessorModifier | Keyword::Starts(_)
+    )
+}
+
+/// Whether the word begins a declaration whatever follows.
+#[inline(always)]
+pub fn starts_anywhere(keyword: Keyword) -> bool
+    ensures { result ≡ starts_anywhere keyword }
+{
+    match keyword {
+        Keyword::Starts(starter) => !matches!(
+            starter,
+            Starter::Class | Starter::Actor | Starter::Macro
+        ),
+        _ => false,
+    }
 }

@@ -1,5 +1,4 @@
-use Rattle.std.proofs.Common.{◌≡◌, ◌+◌, ◌≤◌, length, drop, slice_get}
-use Rattle.element_marks.specs.Heads.{with_angles, with_modifiers}
+use Rattle.std.proofs.Common.{◌≡◌, ◌+◌, ◌≤◌, length, drop}
 use Rattle.element_marks.specs.Passes.{closes_of, opens_of}
 use Rattle.element_marks.proofs.AnglePart.{IsTable}
 use Rattle.element_marks.proofs.Backward.{finished}
@@ -13,7 +12,6 @@ invariant-elements l = record {
   size : length l.behind ≡ opens_of l.fn.marks + closes_of l.fn.marks + 1;
   table : IsTable l.behind l.at l.depth (drop l.at l.fn.marks);
   balance : l.depth + opens_of (drop l.at l.fn.marks) ≡ opens_of l.fn.marks + closes_of (drop l.at l.fn.marks);
-  known : l.next ≡ slice_get (with_modifiers (with_angles (drop l.at l.fn.marks))) 0;
   shape : length l.marks ≡ length l.fn.marks;
 }
 
