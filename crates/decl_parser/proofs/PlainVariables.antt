@@ -1,6 +1,6 @@
 -- The declaration of a variable of one name with an initializer in which nothing begins.
-use Rattle.std.proofs.Common.{◌≡◌, ◌⊎◌, inl, inr, refl, ℕ, zero, suc, ◌+◌, ◌-◌, ◌<◌, ◌≤◌, ◌==◌, ◌∙◌, ap, sym, subst, arith, List, [], ◌∷◌, ◌++◌, length, reverse, drop, take, take_all, nat_lt, Option, Some, None, Result, Ok, Err, Bool, true, false, ◌||◌, ◌&&◌, not, if◌then◌else◌}
-use Rattle.std.specs.List.{list_all, list_any}
+use Rattle.std.proofs.Common.{◌≡◌, ◌⊎◌, inl, inr, refl, ℕ, zero, suc, ◌+◌, ◌-◌, ◌≤◌, ◌==◌, ◌∙◌, ap, sym, subst, arith, List, [], ◌∷◌, length, reverse, drop, take, take_all, nat_lt, Option, Some, None, Result, Ok, Err, Bool, true, false, ◌||◌, ◌&&◌, not, if◌then◌else◌}
+use Rattle.std.specs.List.{list_any}
 use Rattle.std.proofs.Math.Dec.{eqb-suc-zero}
 use Rattle.std.proofs.lemmas.List.{length-drop}
 use Rattle.swift_tree.specs.declared.item.Kind.{Kind}
@@ -24,9 +24,8 @@ use Rattle.decl_parser.specs.declared.inside.Inside.{Inside}
 use Rattle.decl_parser.specs.declared.place.Place.{Place}
 use Rattle.decl_parser.specs.declared.place.Place.TheVariants as place
 use Rattle.decl_parser.specs.declared.bindings.Bound.{Bound}
-use Rattle.decl_parser.specs.declared.bindings.Tail.{Tail}
 use Rattle.decl_parser.specs.Attributes.{span_from}
-use Rattle.decl_parser.specs.Bindings.{binding_of, bindings_from, bound, tail_of, by_equals, has_observers, with_initializer, pattern_names, type_before}
+use Rattle.decl_parser.specs.Bindings.{binding_of, bindings_from, tail_of, by_equals, has_observers, with_initializer, pattern_names, type_before}
 use Rattle.decl_parser.specs.Cut.{assembled, beginning, closed, ends, head_of, item_at, members_at, members_place, nothing_more, placed, use_ends, use_fits, whole_item, without, kind_of}
 use Rattle.decl_parser.specs.Found.{found_from, nothing}
 use Rattle.decl_parser.specs.declared.fault.ParseFault.{ParseFault}
@@ -215,12 +214,12 @@ module _ (list next : List Mark) (from : ℕ) (insides : List Inside) (held : Li
       ∙ ap (λ n. read_by list from own next insides held starter n (kind_of starter) (members_place starter n own)) head
       ∙ (λ i. read_by list from own next insides held starter 1 (kind.0 i) (members i))
       ∙ ap (λ r. and_then r (λ parts.
-        and_then (and_then (closed parts.body (drop 1 own)) (λ closes. and_then (use_ends starter list from) (λ alone. ends own))) (λ ended.
-        Ok (assembled (span_from own) next which parts (found_from parts.blocks (from + 1) list from 0 (length list - from) insides) [])))) (parts_are kind.1 named is behind_name.1)
+      and_then (and_then (closed parts.body (drop 1 own)) (λ closes. and_then (use_ends starter list from) (λ alone. ends own))) (λ ended.
+      Ok (assembled (span_from own) next which parts (found_from parts.blocks (from + 1) list from 0 (length list - from) insides) [])))) (parts_are kind.1 named is behind_name.1)
       ∙ ap (λ b. and_then (and_then (if b then nothing_more (drop (use_length [] (reverse (take from list)) (drop from list)) (drop from list)) else Ok tt) (λ alone. ends own)) (λ ended.
-        Ok (assembled (span_from own) next which (plain_parts name equals.start (first ∷ init) (span_from own).end) (found_from [] (from + 1) list from 0 (length list - from) insides) []))) begins.no_use
+      Ok (assembled (span_from own) next which (plain_parts name equals.start (first ∷ init) (span_from own).end) (found_from [] (from + 1) list from 0 (length list - from) insides) []))) begins.no_use
       ∙ ap (λ e. and_then e (λ ended.
-        Ok (assembled (span_from own) next which (plain_parts name equals.start (first ∷ init) (span_from own).end) (found_from [] (from + 1) list from 0 (length list - from) insides) []))) ended
+      Ok (assembled (span_from own) next which (plain_parts name equals.start (first ∷ init) (span_from own).end) (found_from [] (from + 1) list from 0 (length list - from) insides) []))) ended
       ∙ ap (λ f. Ok (assembled (span_from own) next which (plain_parts name equals.start (first ∷ init) (span_from own).end) f [])) (found_nothing here plain blank few))
 
 empty : {A : Type 0} (x : A) (l : List A) → (length (x ∷ l) == 0) ≡ false

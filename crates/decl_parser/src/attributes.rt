@@ -7,8 +7,8 @@ ghost use Rattle.decl_parser.specs.Attributes.{args_place, args_span, args_uses,
 use crate::inside::{Inside, first_uses};
 use crate::lists::{behind, upto};
 use element_marks::{
-    Mark, attribute_length, behind_first, dots_length, first_angles, is_parentheses, is_semicolon, name_of,
-    span_of, whole,
+    Mark, attribute_length, behind_first, dots_length, first_angles, is_parentheses, is_semicolon,
+    name_of, span_of, whole,
 };
 use std::alloc::{AllocError, Global};
 use swift_base::{Listed, Span};

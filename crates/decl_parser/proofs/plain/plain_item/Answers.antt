@@ -1,6 +1,4 @@
-use Rattle.std.proofs.Common.{◌≡◌, ◌∙◌, ap, List, [], ◌∷◌, Option, Some, None}
-use Rattle.swift_base.specs.declared.place.Span.{Span}
-use Rattle.swift_tree.specs.declared.item.Binding.{Binding}
+use Rattle.std.proofs.Common.{◌≡◌, ◌∙◌, ap, [], ◌∷◌, Some, None}
 use Rattle.swift_tree.specs.declared.item.Item.{roll-Item}
 use Rattle.swift_tree.specs.Outlines.{item, item_of, no_block}
 use Rattle.swift_tree.proofs.Folds.{item_of-roll}

@@ -1,4 +1,4 @@
-use Rattle.std.proofs.Common.{◌≡◌, ◌≤◌, ◌∙◌, ap, sym, ℕ, List, Ok, IfSome, drop, length}
+use Rattle.std.proofs.Common.{◌∙◌, ap, sym, Ok}
 use Rattle.decl_parser.proofs.PlainVariables.{plain_read}
 use Rattle.decl_parser.proofs.plain.plain_variable.Goals as goal
 
