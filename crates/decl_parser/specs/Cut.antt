@@ -1,5 +1,5 @@
 -- A list of elements cut into declarations: this project's own, after The Swift Programming Language, Declarations.
-use Rattle.std.specs.Prelude.{ℕ, zero, suc, ◌+◌, ◌-◌, ◌==◌, min, slice_get, List, [], ◌∷◌, ◌++◌, reverse, take, drop, length, Option, Some, None, Box, option_map, Result, Ok, Err, not, if◌then◌else◌}
+use Rattle.std.specs.Prelude.{◌≡◌, ◌<◌, ℕ, zero, suc, ◌+◌, ◌-◌, ◌==◌, min, slice_get, List, [], ◌∷◌, ◌++◌, reverse, take, drop, length, Option, Some, None, Box, option_map, Result, Ok, Err, false, not, if◌then◌else◌}
 use Rattle.swift_base.specs.declared.place.Span.{Span}
 use Rattle.std.specs.declared.alloc.Global.{Global}
 use Rattle.swift_tree.specs.declared.item.Kind.{Kind}
@@ -182,6 +182,14 @@ item_at place list from next insides held = and_then (beginning place (drop from
 -- how many elements the declaration is that begins here
 abbrev pub count_of : List Mark → ℕ
 count_of marks = item_length (head_of marks) marks
+
+-- a declaration of so many elements begins at the place
+pub record Begins (marks : List Mark) (at count : ℕ) : Type 0 where
+  pub within : at < length marks
+  pub no_semicolon : first_is is_semicolon (drop at marks) ≡ false
+  pub some_head : (head_of (drop at marks) == 0) ≡ false
+  pub counted : count ≡ count_of (drop at marks)
+  pub some : 0 < count
 
 -- the declaration that begins at the place
 abbrev pub one_item : Place → List Mark → List Inside → List Held → ℕ → Result ItemSeen ParseFault

@@ -16,11 +16,10 @@ use crate::attributes::{after, span_from};
 use crate::fault::{ParseFault, ParseKind, fault};
 use crate::found::{Findings, Search, found};
 use crate::inside::{BlockAt, Inside};
-use crate::levels::{are_blank, group_inside, listed_insides, listed_or};
+use crate::levels::{group_inside, listed_insides, listed_or};
 use crate::lists::{add, behind, upto};
 use crate::parts::{Parts, has_members, parts_of};
 use crate::place::{Place, has_place};
-use crate::plain::plain_variable;
 use element_marks::{
     Blocks, Keyword, Mark, Starter, before_braces, is_builtin_pound, is_pound, is_semicolon,
     item_length, marks_in, use_length,
@@ -129,40 +128,8 @@ fn first_semicolon(marks: &[Mark]) -> bool
 
 /// The declaration that the elements are, or its first fault; `next` stands behind it.
 #[cycle(items)]
-fn item_at(
-    alloc: Global,
-    own: Own,
-    next: &[Mark],
-    place: Place,
-) -> Result<Item, Refusal<ParseFault>>
-    requires within { own.from ≤ length own.list.now }
-    requires blank { AreBlank own.blanks.now }
-    ensures { Answers item_of result (λ outcome. outcome ≡ item_at place own.entry.list.now own.entry.from next.now (insides own.entry.text.now (forest_of own.entry.elements.now)) (held own.entry.text.now (forest_of own.entry.elements.now))) }
-{
-    match blank_variable(own, next) {
-        Some(item) => Ok(item),
-        None => any_item_at(alloc, own, next, place),
-    }
-}
-
-/// The declaration, where it is a plain variable and nothing stands inside its elements.
-#[inline(always)]
-fn blank_variable(own: Own, next: &[Mark]) -> Option<Item>
-    requires { own.from ≤ length own.list.now }
-    ensures { IfSome result (λ item. (place : Place) → Ok (item_of item) ≡ item_at place own.entry.list.now own.entry.from next.now (insides own.entry.text.now (forest_of own.entry.elements.now)) (held own.entry.text.now (forest_of own.entry.elements.now))) }
-{
-    let marks = behind(own.list, own.from);
-    let item = plain_variable(marks, next)?;
-    if own.elements.len() > marks.len() || !are_blank(own.text, own.elements, None) {
-        return None;
-    }
-    Some(item)
-}
-
-/// The declaration that the elements are, whatever it is, or its first fault.
-#[cycle(items)]
 #[tactic(auto, unfolding(crate::specs::Cut::item_at))]
-fn any_item_at(
+fn item_at(
     alloc: Global,
     own: Own,
     next: &[Mark],

@@ -1,42 +1,72 @@
-// Variables of one name with an initializer, as most declarations are.
+// Variables of one name with an initializer, as most declarations are, read by the elements of their list.
 
-ghost use Rattle.std.specs.Prelude.{◌≡◌, ◌≤◌, ℕ, List, Ok, IfSome, drop, length, true};
+ghost use Rattle.std.specs.Prelude.{◌≡◌, ◌≤◌, ◌∷◌, ℕ, List, Some, IfSome, drop, false, length};
+ghost use Rattle.swift_lexer.specs.Trees.{forest_of};
+ghost use Rattle.swift_lexer.specs.declared.element.Element.{Element};
 ghost use Rattle.swift_tree.specs.Outlines.{item_of};
+ghost use Rattle.element_marks.specs.Heads.{with_joins};
+ghost use Rattle.element_marks.specs.Levels.{own_marks};
 ghost use Rattle.element_marks.specs.declared.mark.Mark.{Mark};
 ghost use Rattle.decl_parser.specs.declared.place.Place.{Place};
-ghost use Rattle.decl_parser.specs.declared.inside.Inside.{Inside};
-ghost use Rattle.decl_parser.specs.Cut.{ends, item_at};
-ghost use Rattle.decl_parser.specs.Held.{Held};
-ghost use Rattle.decl_parser.specs.Insides.{AreBlank};
-ghost use Rattle.decl_parser.specs.Plain.{BeginsVariable, are_plain, is_plain, is_plain_name, plain_item};
+ghost use Rattle.decl_parser.specs.Cut.{after};
+ghost use Rattle.decl_parser.specs.Plain.{BeginsVariable, IsRead, is_plain, is_plain_name, plain_item, run_from, set_by, stops_first};
 
-use crate::attributes::{after, span_from};
+use crate::lists::upto;
+use crate::quiet::are_silent;
 use element_marks::{
-    Keyword, Mark, Sort, Starter, is_equals, is_parentheses, is_pattern, is_pound, is_underscore,
-    name_of, whole,
+    Keyword, Mark, Sort, Starter, begins_alone, begins_nothing, is_equals, is_parentheses,
+    is_pattern, is_semicolon, is_underscore, is_word, joins, mark_of, name_of,
 };
-use swift_base::SmallList;
+use swift_base::{SmallList, Span};
+use swift_lexer::Element;
 use swift_tree::{Binding, Further, Item, Kind};
 
-/// The declaration that the elements are, where it is `let` or `var`, a name, `=` and an initializer in which neither
-/// a use nor an attribute begins, no comma and no braces stand; `next` stands behind it.
-#[inline(always)]
-pub fn plain_variable(marks: &[Mark], next: &[Mark]) -> Option<Item>
-    ensures { IfSome result (λ item. (place : Place) (list : List Mark) (from : ℕ) (insides : List Inside) (held : List Held)
-        → drop from list ≡ marks.now → from ≤ length list → AreBlank insides → length insides ≤ length marks.now
-        → Ok (item_of item) ≡ item_at place list from next.now insides held) }
+/// A declaration, and how many elements it is.
+#[derive(Drop)]
+pub struct Read {
+    pub item: Item,
+    pub count: usize,
+}
+
+/// How far a declaration goes behind its starter.
+#[derive(Clone, Copy)]
+pub struct Run {
+    /// How many elements it has there.
+    pub count: usize,
+    /// Where the last ends.
+    pub end: u32,
+    /// Whether the last joins.
+    pub joins: bool,
+    /// The end of a `;` behind it, else its own.
+    pub after: u32,
+}
+
+/// The declaration that begins the elements, where it is `let` or `var`, a name, `=` and an initializer in which
+/// neither a use nor an attribute begins, no comma and no braces stand and whose brackets have nothing to tell, and
+/// where these elements alone tell where it ends.
+pub fn variable_at(text: &[u8], elements: &[Element]) -> Option<Read>
+    ensures { IfSome result (λ read. (place : Place) (list : List Element) (at : ℕ) → drop at list ≡ elements.now → IsRead place text.now (forest_of list) at read) }
 {
-    let (starter, named) = marks.split_first()?;
-    let (name, behind_name) = named.split_first()?;
-    let (equals, init) = behind_name.split_first()?;
-    let kind = variable_kind(starter)?;
-    if !is_plain_name(name) || !is_equals(equals) || init.is_empty() {
+    let (first, others) = elements.split_first()?;
+    let (second, behind_name) = others.split_first()?;
+    let (third, init) = behind_name.split_first()?;
+    let (fourth, _) = init.split_first()?;
+    let starter = mark_of(text, first);
+    let kind = variable_kind(&starter)?;
+    let name = mark_of(text, second);
+    let equals = mark_of(text, third);
+    if !is_plain_name(&name) || !is_equals(&equals) {
         return None;
     }
-    if !joins_no_more(marks) || !are_plain(marks) {
+    let run = run_behind(text, starter, others)?;
+    if run.count < 3 || run.joins || !are_silent(text, upto(elements, run.count + 1)) {
         return None;
     }
-    Some(plain_item(kind, marks, name, equals.start, init, next))
+    let value = mark_of(text, fourth);
+    Some(Read {
+        item: plain_item(kind, starter.start, &name, equals.start, value.start, run),
+        count: run.count + 1,
+    })
 }
 
 /// The kind of a variable without attributes and modifiers.
@@ -44,7 +74,7 @@ pub fn plain_variable(marks: &[Mark], next: &[Mark]) -> Option<Item>
 fn variable_kind(starter: &Mark) -> Option<Kind>
     ensures { IfSome result (λ kind. BeginsVariable starter.now kind) }
 {
-    if starter.head != 1 || is_pound(starter) {
+    if !is_word(starter) || !begins_alone(starter) {
         return None;
     }
     match starter.keyword {
@@ -71,48 +101,87 @@ fn is_plain(mark: &Mark) -> bool
     )
 }
 
+/// How far the declaration goes behind its starter, where its elements are plain and tell it alone.
 #[inline(always)]
-fn are_plain(marks: &[Mark]) -> bool
-    ensures { result ≡ are_plain marks.now }
+fn run_behind(text: &[u8], starter: Mark, elements: &[Element]) -> Option<Run>
+    ensures run { IfSome result (λ run. Some run ≡ run_from 0 starter.end false (set_by (with_joins (Some starter) (own_marks text.now (forest_of elements.now))))) }
+    ensures bound { IfSome result (λ run. run.count ≤ length elements.now) }
 {
-    marks.iter().all(|mark| is_plain(mark))
+    let mut run = Run {
+        count: 0,
+        end: starter.end,
+        joins: false,
+        after: starter.end,
+    };
+    let mut previous = starter;
+    'elements: for element in elements {
+        let own = mark_of(text, element);
+        let mut mark = own;
+        mark.joins = joins(Some(previous), own);
+        if stops_at(&mark, run.joins)? {
+            return Some(Run {
+                after: after_mark(run.end, &mark),
+                ..run
+            });
+        }
+        if !is_plain(&mark) {
+            return None;
+        }
+        run = Run {
+            count: run.count + 1,
+            end: mark.end,
+            joins: mark.joins,
+            after: mark.end,
+        };
+        previous = own;
+    }
+    Some(run)
 }
 
-/// Whether no element is left that joins what isn't there.
+/// Whether a declaration has ended before the element, where that doesn't depend on what stands behind it.
 #[inline(always)]
-fn joins_no_more(marks: &[Mark]) -> bool
-    ensures { result ≡ true → ends marks.now ≡ Ok tt }
+fn stops_at(mark: &Mark, joined: bool) -> Option<bool>
+    ensures { IfSome result (λ stops. (behind : List Mark) → stops ≡ stops_first joined (set_by (mark.now ∷ behind))) }
 {
-    match marks.last() {
-        Some(last) => !last.joins,
-        None => true,
+    if is_semicolon(mark) {
+        return Some(true);
     }
+    if !mark.first || joined || begins_nothing(mark) {
+        return Some(false);
+    }
+    if begins_alone(mark) { Some(true) } else { None }
+}
+
+/// The end of the element behind a declaration, where it is a `;`, else this one.
+#[inline(always)]
+fn after_mark(end: u32, mark: &Mark) -> u32
+    ensures { (behind : List Mark) → result ≡ after end (mark.now ∷ behind) }
+{
+    if is_semicolon(mark) { mark.end } else { end }
 }
 
 /// The declaration by its parts.
 #[inline(always)]
-fn plain_item(
-    kind: Kind,
-    marks: &[Mark],
-    name: &Mark,
-    equals: u32,
-    init: &[Mark],
-    next: &[Mark],
-) -> Item
-    ensures { item_of result ≡ plain_item kind marks.now name.now equals init.now next.now }
+fn plain_item(kind: Kind, start: u32, name: &Mark, equals: u32, value: u32, run: Run) -> Item
+    ensures { item_of result ≡ plain_item kind start name.now equals value run }
 {
-    let span = span_from(marks);
     Item {
-        span,
-        after: after(span.end, next),
+        span: Span {
+            start,
+            end: run.end,
+        },
+        after: run.after,
         kind,
         names: SmallList::one(name_of(name)),
         bindings: SmallList::one(Binding {
             names: SmallList::one(name_of(name)),
             type_span: None,
             equals: Some(equals),
-            init: whole(init),
-            end: span.end,
+            init: Some(Span {
+                start: value,
+                end: run.end,
+            }),
+            end: run.end,
         }),
         block: None,
         further: Further::none(),

@@ -122,7 +122,7 @@ fn settle(end: u32, at: usize, marks: &mut [Mark])
 
 /// Whether no attribute, angle part, modifier or starter begins with the element, as with nearly all.
 #[inline(always)]
-fn begins_nothing(mark: &Mark) -> bool
+pub fn begins_nothing(mark: &Mark) -> bool
     ensures { result ≡ begins_nothing mark.now }
 {
     !is_at_or_pound(mark) && !mark.begins_angle && !may_begin(mark.keyword)
@@ -130,7 +130,7 @@ fn begins_nothing(mark: &Mark) -> bool
 
 /// Whether the element is a starter wherever it stands, and nothing else.
 #[inline(always)]
-fn begins_alone(mark: &Mark) -> bool
+pub fn begins_alone(mark: &Mark) -> bool
     ensures { result ≡ begins_alone mark.now }
 {
     !is_at(mark) && !mark.begins_angle && starts_anywhere(mark.keyword)

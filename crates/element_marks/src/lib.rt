@@ -25,9 +25,9 @@ pub use heads::{
     first_parentheses,
 };
 pub use inherits::{Stop, inherited, length_before};
-pub use level::marks_in;
+pub use level::{begins_alone, begins_nothing, marks_in};
 pub use mark::{Mark, Sort};
-pub use marks::{mark_of, part};
+pub use marks::{joins, mark_of, part};
 pub use quiet::{is_blank, is_quiet, may_list_accessors, name_at, sort_of};
 pub use runs::{before_braces, before_equals, binding_length, item_length};
 pub use sorts::{

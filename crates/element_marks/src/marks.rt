@@ -175,6 +175,7 @@ fn ends_angle(sort: Sort, bytes: &[u8]) -> bool
     }
 }
 
+#[inline(always)]
 fn is_punctuation(sort: Sort) -> bool
     ensures { result ≡ is_punctuation sort }
 {
@@ -184,6 +185,7 @@ fn is_punctuation(sort: Sort) -> bool
     )
 }
 
+#[inline(always)]
 fn operator_joins(previous: Option<Mark>, spaced: bool) -> bool
     ensures { result ≡ operator_joins previous spaced }
 {
@@ -196,6 +198,7 @@ fn operator_joins(previous: Option<Mark>, spaced: bool) -> bool
 }
 
 /// Whether the element joins those around it, by the one before it.
+#[inline(always)]
 pub fn joins(previous: Option<Mark>, mark: Mark) -> bool
     ensures { result ≡ joins previous mark mark.sort }
 {
