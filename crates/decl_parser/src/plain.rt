@@ -146,7 +146,13 @@ fn stops_at(mark: &Mark, joined: bool) -> Option<bool>
     if is_semicolon(mark) {
         return Some(true);
     }
-    if !mark.first || joined || begins_nothing(mark) {
+    if !mark.first {
+        return Some(false);
+    }
+    if joined {
+        return Some(false);
+    }
+    if begins_nothing(mark) {
         return Some(false);
     }
     if begins_alone(mark) { Some(true) } else { None }

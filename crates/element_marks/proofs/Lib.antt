@@ -1,6 +1,7 @@
 pub mod AnglePart
 pub mod Backward
 pub mod Ends
+pub mod Fronts
 pub mod Further
 pub mod Quieter
 pub mod Rows

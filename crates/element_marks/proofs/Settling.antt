@@ -15,7 +15,7 @@ use Rattle.element_marks.proofs.Starting.{head_plain, head_with, modifies_is, se
 abbrev pub alone : ℕ → Mark → Mark
 alone count mark = record mark { angles = 0; modifies = false; head = count }
 
-no_attribute : (mark : Mark) (marks : List Mark) → is_at mark ≡ false → attribute_length (mark ∷ marks) ≡ 0
+pub no_attribute : (mark : Mark) (marks : List Mark) → is_at mark ≡ false → attribute_length (mark ∷ marks) ≡ 0
 unfolding attribute_length
 no_attribute mark [] no_at = refl
 no_attribute mark (name ∷ marks) no_at = ap (λ b. if b && is_name name then suc (suc (name_tail marks)) else 0) no_at

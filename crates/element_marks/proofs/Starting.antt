@@ -25,7 +25,7 @@ with_length : (marks : List Mark) → length (with_heads marks) ≡ length marks
 with_length [] = refl
 with_length (mark ∷ marks) = ap suc (with_length marks)
 
-with_drop : (n : ℕ) (marks : List Mark) → drop n (with_heads marks) ≡ with_heads (drop n marks)
+pub with_drop : (n : ℕ) (marks : List Mark) → drop n (with_heads marks) ≡ with_heads (drop n marks)
 with_drop zero marks = refl
 with_drop (suc n) [] = refl
 with_drop (suc n) (mark ∷ marks) = with_drop n marks

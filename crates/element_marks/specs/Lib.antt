@@ -1,5 +1,6 @@
 pub mod Accessors
 pub mod Answers
+pub mod Fronts
 pub mod Heads
 pub mod Inherits
 pub mod Levels

@@ -1,10 +1,11 @@
 // The elements of a list, each by its own text and by its neighbours.
 
-ghost use Rattle.std.specs.Prelude.{◌≡◌, ◌+◌, ◌-◌, ◌<◌, ◌≤◌, ◌^◌, ◌++◌, drop, length, replicate, slice_get, take, None, IfOk, false, if◌then◌else◌};
+ghost use Rattle.std.specs.Prelude.{◌≡◌, ◌+◌, ◌-◌, ◌<◌, ◌≤◌, ◌^◌, ◌++◌, drop, length, replicate, slice_get, take, IfOk, false, if◌then◌else◌};
 ghost use Rattle.swift_lexer.specs.Trees.{forest_of};
 ghost use Rattle.element_marks.specs.Heads.{with_angles, with_heads, with_joins, with_modifiers};
 ghost use Rattle.element_marks.specs.Passes.{HeadsKnown, begins_alone, begins_nothing, closes_of, first_settled, opens_of};
 ghost use Rattle.element_marks.specs.Levels.{level, own_marks};
+ghost use Rattle.element_marks.specs.Fronts.{list_behind};
 
 use crate::heads::{head, modifies};
 use crate::mark::Mark;
@@ -28,10 +29,22 @@ struct Joined {
 pub fn marks_in(alloc: Global, text: &[u8], elements: &[Element]) -> Result<Vec<Mark>, AllocError>
     ensures { IfOk result (λ marks. marks.items ≡ level text.now (forest_of elements.now)) }
 {
+    marks_behind(alloc, text, None, elements)
+}
+
+/// The marks of the elements of a list from one on, by the one before it.
+pub fn marks_behind(
+    alloc: Global,
+    text: &[u8],
+    previous: Option<Mark>,
+    elements: &[Element],
+) -> Result<Vec<Mark>, AllocError>
+    ensures { IfOk result (λ marks. marks.items ≡ list_behind previous (own_marks text.now (forest_of elements.now))) }
+{
     if elements.len() > u32::MAX as usize {
         return Err(AllocError);
     }
-    let joined = joined_marks(alloc, text, elements)?;
+    let joined = joined_marks(alloc, text, previous, elements)?;
     let mut behind = empty_table(alloc, joined.opened + joined.closed + 1)?;
     let mut marks = joined.marks;
     set_neighbours(&mut behind, joined.opened, &mut marks);
@@ -39,16 +52,21 @@ pub fn marks_in(alloc: Global, text: &[u8], elements: &[Element]) -> Result<Vec<
 }
 
 /// As long as a text can have so many `<` and `>`.
-fn joined_marks(alloc: Global, text: &[u8], elements: &[Element]) -> Result<Joined, AllocError>
-    ensures marks { IfOk result (λ joined. joined.marks.items ≡ with_joins None (own_marks text.now (forest_of elements.now))) }
-    ensures opened { IfOk result (λ joined. joined.opened ≡ opens_of (with_joins None (own_marks text.now (forest_of elements.now)))) }
-    ensures closed { IfOk result (λ joined. joined.closed ≡ closes_of (with_joins None (own_marks text.now (forest_of elements.now)))) }
+fn joined_marks(
+    alloc: Global,
+    text: &[u8],
+    before: Option<Mark>,
+    elements: &[Element],
+) -> Result<Joined, AllocError>
+    ensures marks { IfOk result (λ joined. joined.marks.items ≡ with_joins before (own_marks text.now (forest_of elements.now))) }
+    ensures opened { IfOk result (λ joined. joined.opened ≡ opens_of (with_joins before (own_marks text.now (forest_of elements.now)))) }
+    ensures closed { IfOk result (λ joined. joined.closed ≡ closes_of (with_joins before (own_marks text.now (forest_of elements.now)))) }
     ensures few { IfOk result (λ joined. joined.opened + joined.closed < 2 ^ 32) }
 {
     let mut marks = Vec::with_capacity(alloc, elements.len())?;
     let mut opened = 0usize;
     let mut closed = 0usize;
-    let mut previous = None;
+    let mut previous = before;
     'elements: for element in elements {
         let own = mark_of(text, element);
         opened += own.opens as usize;

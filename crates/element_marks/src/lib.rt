@@ -6,6 +6,7 @@
 
 mod accessors;
 mod blocks;
+mod front;
 mod heads;
 mod inherits;
 mod level;
@@ -20,6 +21,7 @@ mod words;
 
 pub use accessors::{accessor_words, lists_accessors, observes};
 pub use blocks::Blocks;
+pub use front::front_marks;
 pub use heads::{
     attribute_length, behind, dots_length, first_angles, first_braces, first_colon,
     first_parentheses,

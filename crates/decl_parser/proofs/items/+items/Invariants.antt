@@ -9,9 +9,6 @@ use Rattle.decl_parser.proofs.items.+items.Given as goal
 abbrev pub decreases-item_at : goal.decreases-item_at
 decreases-item_at l = 4 * forest_size (forest_of l.own.elements.now) + 2
 
-abbrev pub decreases-any_item_at : goal.decreases-any_item_at
-decreases-any_item_at l = 4 * forest_size (forest_of l.own.elements.now) + 1
-
 abbrev pub decreases-items : goal.decreases-items
 decreases-items l = 4 * forest_size (forest_of l.elements.now) + 3
 
