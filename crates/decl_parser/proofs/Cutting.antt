@@ -104,10 +104,12 @@ pub not_zero : (n : ℕ) → 0 < n → (n == 0) ≡ false
 not_zero zero some = absurd (omega (arith, some))
 not_zero (suc n) some = eqb-suc-zero n
 
--- the whole list, by its marks
-pub list_is : (place : Place) (text : List ℕ) (forest : Forest) (marks : List Mark) → marks ≡ level text forest → cut_from place marks (insides text forest) (held text forest) 0 0 (length marks) ≡ items_of_list place text forest
+-- the whole list
+pub whole_list : (place : Place) (text : List ℕ) (forest : Forest) → rest_from place (level text forest) (insides text forest) (held text forest) 0 ≡ items_of_list place text forest
 unfolding items_of_list items_in
-list_is place text forest marks is = ap (λ m. cut_from place m (insides text forest) (held text forest) 0 0 (length m)) is
+whole_list place text forest =
+    let all : length (level text forest) - 0 ≡ length (level text forest) = omega arith in
+    ap (cut_from place (level text forest) (insides text forest) (held text forest) 0 0) all
 
 -- a part of a list is no larger
 pub size_take : (n : ℕ) (elements : List Element) → forest_size (forest_of (take n elements)) ≤ forest_size (forest_of elements)

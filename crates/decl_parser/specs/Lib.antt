@@ -5,6 +5,7 @@ pub mod Faults
 pub mod Found
 pub mod Gathering
 pub mod Fragments
+pub mod Fronts
 pub mod Held
 pub mod Insides
 pub mod Laws

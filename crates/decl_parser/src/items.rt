@@ -1,6 +1,6 @@
 // Lists of elements cut into declarations.
 
-ghost use Rattle.std.specs.Prelude.{◌≡◌, ◌<◌, ◌≤◌, ◌+◌, ℕ, List, Ok, Some, IfOk, IfSome, drop, length, map, option_map};
+ghost use Rattle.std.specs.Prelude.{◌≡◌, ◌<◌, ◌≤◌, ◌+◌, ℕ, List, Ok, Some, IfOk, drop, length, map, option_map};
 ghost use Rattle.swift_lexer.specs.Trees.{forest_of};
 ghost use Rattle.swift_tree.specs.Outlines.{item_of};
 ghost use Rattle.element_marks.specs.Answers.{Answers};
@@ -15,6 +15,7 @@ ghost use Rattle.decl_parser.specs.Levels.{forest_size, held, insides, items_of_
 use crate::attributes::{after, span_from};
 use crate::fault::{ParseFault, ParseKind, fault};
 use crate::found::{Findings, Search, found};
+use crate::front::{Front, reaching};
 use crate::inside::{BlockAt, Inside};
 use crate::levels::{group_inside, listed_insides, listed_or};
 use crate::lists::{add, behind, upto};
@@ -22,7 +23,7 @@ use crate::parts::{Parts, has_members, parts_of};
 use crate::place::{Place, has_place};
 use element_marks::{
     Blocks, Keyword, Mark, Starter, before_braces, is_builtin_pound, is_pound, is_semicolon,
-    item_length, marks_in, use_length,
+    item_length, use_length,
 };
 use std::alloc::{AllocError, Global};
 use swift_base::{Refusal, Span, ThinList};
@@ -91,11 +92,16 @@ pub fn items(
     requires { AreBlank blanks.now }
     ensures { Answers (λ items. map item_of items.items) result (λ outcome. outcome ≡ items_of_list place text.now (forest_of elements.now)) }
 {
-    let marks = marks_in(alloc, text, elements)?;
     let mut items = Vec::new(alloc);
+    let mut front = Front {
+        from: 0,
+        marks: Vec::new(alloc),
+    };
     let mut at = 0;
-    'items: while at < marks.len() {
-        let rest = behind(&marks, at);
+    'items: while at < elements.len() {
+        front = reaching(alloc, text, elements, at, front)?;
+        let here = at - front.from;
+        let rest = behind(&front.marks, here);
         if first_semicolon(rest) {
             at += 1;
         } else if head_of(rest) == 0 {
@@ -104,12 +110,12 @@ pub fn items(
             let count = count_of(rest);
             let own = Own {
                 text,
-                list: upto(&marks, at + count),
-                from: at,
+                list: upto(&front.marks, here + count),
+                from: here,
                 elements: upto(behind(elements, at), count),
                 blanks,
             };
-            let item = item_at(alloc, own, behind(&marks, at + count), place)?;
+            let item = item_at(alloc, own, behind(&front.marks, here + count), place)?;
             add(&mut items, item)?;
             at += count;
         }
@@ -220,7 +226,7 @@ fn all_ends(
 
 /// How many elements the declaration is that begins here.
 #[inline(always)]
-fn count_of(marks: &[Mark]) -> usize
+pub fn count_of(marks: &[Mark]) -> usize
     ensures value { result ≡ count_of marks.now }
     ensures bound { result ≤ length marks.now + length marks.now }
 {

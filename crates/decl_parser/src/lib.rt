@@ -8,6 +8,7 @@ mod bindings;
 mod fault;
 mod found;
 mod fragments;
+mod front;
 mod gathering;
 mod inside;
 mod items;
