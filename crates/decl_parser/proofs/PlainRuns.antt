@@ -1,5 +1,5 @@
 -- How far a declaration of plain elements goes, where these alone tell it.
-use Rattle.std.proofs.Common.{◌≡◌, refl, ℕ, zero, suc, ◌+◌, ◌==◌, ◌∙◌, ap, ap₂, sym, arith, List, [], ◌∷◌, take, drop, Some, None, Bool, true, false, ◌&&◌, ◌||◌, not, if◌then◌else◌}
+use Rattle.std.proofs.Common.{◌≡◌, refl, ℕ, suc, ◌+◌, ◌==◌, ◌∙◌, ap, ap₂, sym, arith, List, [], ◌∷◌, take, drop, Some, None, Bool, true, false, ◌&&◌, ◌||◌, not, if◌then◌else◌}
 use Rattle.element_marks.specs.declared.mark.Mark.{Mark}
 use Rattle.element_marks.specs.Heads.{angles, angles_from}
 use Rattle.element_marks.specs.Passes.{begins_alone, begins_nothing}

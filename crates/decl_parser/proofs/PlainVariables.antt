@@ -45,7 +45,7 @@ use Rattle.decl_parser.specs.Parts.{has_members, names_only, of_variable, parts,
 use Rattle.decl_parser.specs.Places.{has_place}
 use Rattle.decl_parser.specs.declared.plain.Read.{Read}
 use Rattle.decl_parser.specs.declared.plain.Run.{Run}
-use Rattle.decl_parser.specs.Plain.{BeginsVariable, IsRead, IsVariable, are_plain, is_plain, is_plain_name, is_plain_sort, plain_item, run_from, set_by, stops_first}
+use Rattle.decl_parser.specs.Plain.{BeginsVariable, IsRead, IsVariable, are_plain, is_plain, is_plain_name, is_plain_sort, plain_item, run_from, set_by}
 use Rattle.decl_parser.proofs.BindingWalks.{last_binding}
 use Rattle.decl_parser.proofs.Prefixes.{prefixed_nothing}
 use Rattle.decl_parser.proofs.Grouped.{insides_drop, insides_take}
@@ -340,7 +340,7 @@ variable_read place text list at first second third fourth init which run read h
     let beside : length (insides text (forest_of list)) ≡ length marks = length_insides text list ∙ sym (length_level text list) in
     record {
       begins = subst (Begins marks at) (count ∙ sym counted)
-      (begins_at place marks (insides text (forest_of list)) (held text (forest_of list)) at m _ _ _ _ _ which run all alone begins.a_word goes);
+          (begins_at place marks (insides text (forest_of list)) (held text (forest_of list)) at m _ _ _ _ _ which run all alone begins.a_word goes);
       item = ap Ok are
-      ∙ item_here place marks (insides text (forest_of list)) (held text (forest_of list)) at m _ _ _ _ _ which run all alone (record { a_word = begins.a_word; alone = begins.alone; word = begins.word }) named is goes (subst (λ n. GoesSo n 0 s.end false left run) goes so) ended blank beside;
+          ∙ item_here place marks (insides text (forest_of list)) (held text (forest_of list)) at m _ _ _ _ _ which run all alone (record { a_word = begins.a_word; alone = begins.alone; word = begins.word }) named is goes (subst (λ n. GoesSo n 0 s.end false left run) goes so) ended blank beside;
     }

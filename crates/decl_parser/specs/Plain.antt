@@ -1,7 +1,6 @@
 -- Variables of one name with an initializer in which nothing begins: this project's own words.
 use Rattle.std.specs.Prelude.{◌≡◌, ◌⊎◌, ℕ, suc, List, [], ◌∷◌, Option, Some, None, Ok, Bool, true, false, ◌&&◌, not, if◌then◌else◌}
 use Rattle.std.specs.List.{list_all}
-use Rattle.swift_base.specs.declared.place.Span.{Span}
 use Rattle.swift_lexer.specs.Trees.{Forest}
 use Rattle.swift_tree.specs.declared.item.Kind.{Kind}
 use Rattle.swift_tree.specs.declared.item.Kind.TheVariants as kind

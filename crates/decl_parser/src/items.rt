@@ -21,6 +21,7 @@ use crate::levels::{group_inside, listed_insides, listed_or};
 use crate::lists::{add, behind, upto};
 use crate::parts::{Parts, has_members, parts_of};
 use crate::place::{Place, has_place};
+use crate::plain::variable_at;
 use element_marks::{
     Blocks, Keyword, Mark, Starter, before_braces, is_builtin_pound, is_pound, is_semicolon,
     item_length, use_length,
@@ -99,6 +100,11 @@ pub fn items(
     };
     let mut at = 0;
     'items: while at < elements.len() {
+        if let Some(read) = variable_at(text, behind(elements, at)) {
+            add(&mut items, read.item)?;
+            at += read.count;
+            continue;
+        }
         front = reaching(alloc, text, elements, at, front)?;
         let here = at - front.from;
         let rest = behind(&front.marks, here);

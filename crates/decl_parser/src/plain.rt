@@ -45,7 +45,8 @@ pub struct Run {
 /// neither a use nor an attribute begins, no comma and no braces stand and whose brackets have nothing to tell, and
 /// where these elements alone tell where it ends.
 pub fn variable_at(text: &[u8], elements: &[Element]) -> Option<Read>
-    ensures { IfSome result (λ read. (place : Place) (list : List Element) (at : ℕ) → drop at list ≡ elements.now → IsRead place text.now (forest_of list) at read) }
+    ensures read { IfSome result (λ read. (place : Place) (list : List Element) (at : ℕ) → drop at list ≡ elements.now → IsRead place text.now (forest_of list) at read) }
+    ensures bound { IfSome result (λ read. read.count ≤ length elements.now) }
 {
     let (first, others) = elements.split_first()?;
     let (second, behind_name) = others.split_first()?;

@@ -11,7 +11,7 @@ returns-then-is_readable c =
 
 pub returns-then-is_readable-2 : goal.returns-then-is_readable-2
 returns-then-is_readable-2 c =
-    readable_by (level c.args.text.now (forest_of c.args.elements.now)) (record { from = c.args.at; marks = c.in_ok-front_marks.field-0 }) c.args.at c.in_ok-front_marks.ensures (sym c.is_readable-2.ensures ∙ c.if-is_readable-2.true) (length_level c.args.text.now c.args.elements.now)
+    readable_by (level c.args.text.now (forest_of c.args.elements.now)) (record { from = c.args.at; marks = c.in_ok-front_marks.field-0 }) c.args.at c.in_ok-front_marks.ensures.value (sym c.is_readable-2.ensures ∙ c.if-is_readable-2.true) (length_level c.args.text.now c.args.elements.now)
 
 pub returns : goal.returns
 returns c =

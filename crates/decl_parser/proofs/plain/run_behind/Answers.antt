@@ -1,5 +1,5 @@
 use Rattle.std.proofs.Common.{◌≡◌, ◌∙◌, ◌∷◌, ◌+◌, ap, refl, sym, arith, suc, drop, Some}
-use Rattle.swift_lexer.specs.Trees.{cons, forest_of, tree_of}
+use Rattle.swift_lexer.specs.Trees.{forest_of, tree_of}
 use Rattle.swift_lexer.proofs.Trees.{forest_of-drop}
 use Rattle.element_marks.specs.declared.mark.Mark.{Mark}
 use Rattle.element_marks.specs.Fronts.{list_behind}
@@ -48,9 +48,9 @@ elements-preserved c =
     let more : suc run.count ≡ run.count + 1 = omega arith in
     record {
       runs = c.elements.invariant.runs
-      ∙ ap (run_from run.count run.end run.joins) here
-      ∙ run_on run.count run.end run.joins mark behind (sym c.if-branch.false ∙ c.in_ok-stops_at.ensures behind) (sym c.if-not-is_plain.false ∙ c.is_plain.ensures)
-      ∙ ap (λ n. run_from n mark.end mark.joins (set_by behind)) more;
+          ∙ ap (run_from run.count run.end run.joins) here
+          ∙ run_on run.count run.end run.joins mark behind (sym c.if-branch.false ∙ c.in_ok-stops_at.ensures behind) (sym c.if-not-is_plain.false ∙ c.is_plain.ensures)
+          ∙ ap (λ n. run_from n mark.end mark.joins (set_by behind)) more;
       counted = ap (λ n. n + 1) c.elements.invariant.counted;
       ends = refl;
     }

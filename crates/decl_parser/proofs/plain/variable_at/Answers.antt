@@ -1,6 +1,5 @@
-use Rattle.std.proofs.Common.{◌≡◌, ◌∙◌, ◌∷◌, ◌+◌, ◌≤◌, ap, subst, sym, arith, refl, take, Some, true, false}
+use Rattle.std.proofs.Common.{◌≡◌, ◌∙◌, ◌∷◌, ◌+◌, ap, subst, sym, arith, length, refl, take, Some, false}
 use Rattle.swift_lexer.specs.Trees.{forest_of, tree_of}
-use Rattle.swift_tree.specs.Outlines.{item_of}
 use Rattle.element_marks.specs.Fronts.{list_behind}
 use Rattle.element_marks.specs.Levels.{own_marks}
 use Rattle.element_marks.specs.Marks.{mark_of}
@@ -10,8 +9,8 @@ use Rattle.decl_parser.specs.Plain.{BeginsVariable, is_plain_name, plain_item, r
 use Rattle.decl_parser.proofs.PlainVariables.{variable_read}
 use Rattle.decl_parser.proofs.plain.variable_at.Goals as goal
 
-pub returns : goal.returns
-returns c = λ place list at here.
+pub returns-clause-read : goal.returns-clause-read
+returns-clause-read c = λ place list at here.
     let text = c.args.text.now in
     let first = c.in_ok-first.first.now in
     let second = c.in_ok-second.second.now in
@@ -36,3 +35,6 @@ returns c = λ place list at here.
     (ap (λ es. are_silent text (forest_of es)) (sym (c.upto.ensures ∙ ap (take (run.count + 1)) all)) ∙ sym c.are_silent.ensures ∙ c.if-not-are_silent.false)
     refl
     (c.plain_item.ensures ∙ (λ i. plain_item c.in_ok-kind.kind (starter i).start (name i) (equals i).start (value i).start run))
+
+pub returns-clause-bound : goal.returns-clause-bound
+returns-clause-bound c = omega (arith, c.in_ok-run.ensures.bound, ap length c.in_ok-first.ensures.cases.0)
