@@ -701,3 +701,37 @@ fn a_text_may_be_so_long_and_no_longer(rt: HostRuntime) -> Result<(), Fail> {
     assert_eq!(rt; refusal, Some(Refusal::Fault(ParseFault { at: 0, kind })));
     Ok(())
 }
+
+/// More elements than are marked at once, and a `#` word behind them.
+#[test]
+fn a_long_list_is_read_to_its_end(rt: HostRuntime) -> Result<(), Fail> {
+    let mut text = Vec::new(rt.alloc());
+    for _ in 0..30 {
+        text.extend_from_slice(b"let a = b + c\n")?;
+    }
+    text.extend_from_slice(b"#p {}\nclass func f() {}")?;
+    let outline = parse_file(rt.alloc(), &text)?;
+    assert_eq!(rt; outline.items.len(), 32);
+    assert_eq!(rt;
+        outline.items[29].span,
+        Span {
+            start: 406,
+            end: 419
+        }
+    );
+    assert_eq!(rt;
+        outline.items[30].span,
+        Span {
+            start: 420,
+            end: 425
+        }
+    );
+    assert_eq!(rt;
+        outline.items[31].span,
+        Span {
+            start: 426,
+            end: 443
+        }
+    );
+    Ok(())
+}
