@@ -1,5 +1,5 @@
 -- A list's front, where nothing that begins in it goes on behind it.
-use Rattle.std.proofs.Common.{◌≡◌, refl, ℕ, zero, suc, ◌+◌, ◌-◌, ◌<◌, ◌≤◌, ◌==◌, ◌∙◌, ap, ap₂, sym, subst, arith, min, List, [], ◌∷◌, ◌++◌, append-nil, length, length-drop, drop, take, take_all, slice_get, Option, Some, None, Bool, true, false, ◌&&◌, ◌||◌, not, if◌then◌else◌}
+use Rattle.std.proofs.Common.{◌≡◌, refl, ℕ, zero, suc, ◌+◌, ◌-◌, ◌<◌, ◌≤◌, ◌==◌, ◌∙◌, ap, ap₂, sym, arith, min, List, [], ◌∷◌, ◌++◌, append-nil, length, length-drop, drop, take, take_all, slice_get, Option, Some, None, Bool, true, false, ◌&&◌, ◌||◌, not, if◌then◌else◌}
 use Rattle.std.specs.List.{list_any}
 use Rattle.std.proofs.lemmas.List.{drop-append-le, take-append-drop}
 use Rattle.std.proofs.Math.Seq.{take-append_seam}

@@ -8,7 +8,7 @@ use std::alloc::Global;
 use std::process::Abort;
 use std::test::Fail;
 use swift_base::Span;
-use swift_lexer::{LONGEST_TEXT, LexFault, Refusal, Token, group, lex};
+use swift_lexer::{Element, LONGEST_TEXT, LexFault, Refusal, Token, group, lex};
 
 /// How many elements the attribute is with which a text begins, and the head.
 const HEADS: [(&str, usize, u32); 11] = [
@@ -100,6 +100,17 @@ const ACCESSORS: [(&str, Result<&[(u32, u32)], u32>); 4] = [
     ("get set", Err(0)),
 ];
 
+/// How many elements the front has that is taken from the first on, of one element or more.
+const FRONTS: [(&str, usize); 7] = [
+    ("let a = 1\nlet b = 2", 2),
+    ("@a(b)\npublic class func x<T>() { }\nlet y = 1", 11),
+    ("let a: b < c\nlet d = e > f, g = h", 2),
+    ("f<a, b> = c", 8),
+    ("f<a, b", 5),
+    ("@ = a, b", 1),
+    ("a", 1),
+];
+
 /// The tokens of a text that is short enough to be read.
 fn lexed(rt: &impl Abort, alloc: Global, text: &[u8]) -> Result<Vec<Token>, Refusal<LexFault>>
     ensures { Answers (λ tokens. tokens.items) result (IsLexed text.now) }
@@ -108,16 +119,21 @@ fn lexed(rt: &impl Abort, alloc: Global, text: &[u8]) -> Result<Vec<Token>, Refu
     lex(alloc, text)
 }
 
-/// The marks of a text on its outermost level, where it is read.
-fn marks_of(rt: &impl Abort, alloc: Global, text: &[u8]) -> Vec<Mark> {
+/// The elements of a text on its outermost level, where it is read.
+fn elements_of(rt: &impl Abort, alloc: Global, text: &[u8]) -> Vec<Element> {
     match lexed(rt, alloc, text) {
         Ok(tokens) => match group(alloc, &tokens, text) {
-            Ok(elements) => match marks_in(alloc, text, &elements) {
-                Ok(marks) => marks,
-                Err(_) => Vec::new(alloc),
-            },
+            Ok(elements) => elements,
             Err(_) => Vec::new(alloc),
         },
+        Err(_) => Vec::new(alloc),
+    }
+}
+
+/// Their marks.
+fn marks_of(rt: &impl Abort, alloc: Global, text: &[u8]) -> Vec<Mark> {
+    match marks_in(alloc, text, &elements_of(rt, alloc, text)) {
+        Ok(marks) => marks,
         Err(_) => Vec::new(alloc),
     }
 }
@@ -208,5 +224,29 @@ fn inherited_types_and_accessors(rt: HostRuntime) -> Result<(), Fail> {
     assert!(rt; !lists_accessors(&marks_of(&rt, rt.alloc(), b"get = set")));
     assert!(rt; observes(&marks_of(&rt, rt.alloc(), b"@A willSet(x) { }")));
     assert!(rt; !observes(&marks_of(&rt, rt.alloc(), b"get { }")));
+    Ok(())
+}
+
+#[test]
+fn fronts(rt: HostRuntime) -> Result<(), Fail> {
+    for (text, length) in FRONTS {
+        let bytes = text.as_bytes();
+        let elements = elements_of(&rt, rt.alloc(), bytes);
+        let marks = marks_in(rt.alloc(), bytes, &elements)?;
+        assert_eq!(rt;
+            front_marks(rt.alloc(), bytes, &elements, 0, 1)?.len(),
+            length,
+            "{text}"
+        );
+        for at in 0..marks.len() + 2 {
+            for least in 0..4usize {
+                let front = front_marks(rt.alloc(), bytes, &elements, at, least)?;
+                let rest = behind(&marks, at);
+                assert!(rt; front.len() >= least.min(rest.len()), "{text} at {at}");
+                assert!(rt; front.len() <= rest.len(), "{text} at {at}");
+                assert!(rt; front.as_slice() == &rest[..front.len()], "{text} at {at}");
+            }
+        }
+    }
     Ok(())
 }
