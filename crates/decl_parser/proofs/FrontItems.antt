@@ -1,14 +1,12 @@
 -- Declarations are read by a front of their list as by the whole list.
-use Rattle.std.proofs.Common.{◌≡◌, ◌⊎◌, inl, inr, ⊎_elim, refl, ℕ, zero, suc, ◌+◌, ◌-◌, ◌<◌, ◌≤◌, ◌==◌, ◌∙◌, ap, sym, subst, subst₂, arith, nat_lt, nat_le, List, [], ◌∷◌, ◌++◌, length, reverse, drop, take, take-append-drop, Result, Ok, Err, Bool, true, false, ◌&&◌, ◌||◌, not, if◌then◌else◌}
+use Rattle.std.proofs.Common.{◌≡◌, ◌⊎◌, inl, inr, ⊎_elim, refl, ℕ, zero, suc, ◌+◌, ◌-◌, ◌<◌, ◌≤◌, ◌==◌, ◌∙◌, ap, sym, subst, subst₂, arith, nat_lt, nat_le, List, [], ◌∷◌, ◌++◌, length, reverse, drop, take, take-append-drop, Result, Ok, Bool, true, false, ◌&&◌, ◌||◌, not, if◌then◌else◌}
 use Rattle.std.proofs.lemmas.Bool.{eq-eqb, eqb-true, le-ltb, leb-true, lt-ltb, ltb-false, ltb-true}
 use Rattle.std.proofs.lemmas.List.{drop-drop, drop-take, length-append, length-drop, length-take, take_all, take-append-le}
 use Rattle.element_marks.specs.declared.mark.Mark.{Mark}
-use Rattle.element_marks.specs.declared.mark.Sort.{Sort}
-use Rattle.element_marks.specs.declared.mark.Sort.TheVariants as sort
 use Rattle.element_marks.specs.Answers.{and_then}
 use Rattle.element_marks.specs.Heads.{attribute_length, first_is}
 use Rattle.element_marks.specs.Runs.{run_length, stops}
-use Rattle.element_marks.specs.Sorts.{is_pound, is_pound_sort, is_semicolon, is_use, is_use_sort}
+use Rattle.element_marks.specs.Sorts.{is_pound, is_semicolon, is_use}
 use Rattle.element_marks.specs.Uses.{use_length}
 use Rattle.swift_tree.specs.declared.item.Kind.{Kind}
 use Rattle.swift_tree.specs.Outlines.{ItemSeen, item}
@@ -18,12 +16,11 @@ use Rattle.decl_parser.specs.declared.inside.Inside.{Inside}
 use Rattle.decl_parser.specs.declared.parts.Parts.{Parts}
 use Rattle.decl_parser.specs.declared.place.Place.{Place}
 use Rattle.decl_parser.specs.Attributes.{span_from}
-use Rattle.decl_parser.specs.Cut.{after, all_ends, assembled, beginning, block_of, closed, count_of, ends, head_of, item_at, item_by, kind_of, members_at, members_place, placed, start_of, starter_of, use_ends, use_fits, whole_item, without}
+use Rattle.decl_parser.specs.Cut.{after, all_ends, assembled, beginning, block_of, closed, count_of, ends, head_of, item_at, item_by, kind_of, members_at, members_place, nothing_more, start_of, use_ends, whole_item, without}
 use Rattle.decl_parser.specs.Found.{found_from, found_step, joined}
-use Rattle.decl_parser.specs.Fronts.{IsFront, Readable, has_pound, is_all, is_readable, stands_alone}
+use Rattle.decl_parser.specs.Fronts.{IsFront, Readable, has_use, is_all, is_readable, stands_alone}
 use Rattle.decl_parser.specs.Held.{Held}
 use Rattle.decl_parser.specs.Parts.{parts}
-use Rattle.decl_parser.specs.Places.{has_place}
 use Rattle.decl_parser.proofs.FoundWalks.{by_lengths}
 
 both : (a b : Bool) → (a && b) ≡ true → (a ≡ true) × (b ≡ true)
@@ -114,24 +111,20 @@ same_by (mark ∷ others) whole n is some (inr ends) =
     subst (SameDeclaration part) all (all_same part)
 
 -- what stands before elements without a use is not looked at
-not_use : (s : Sort) → is_pound_sort s ≡ false → is_use_sort s ≡ false
-not_use sort.Pound none = cc
-not_use _ none = refl
-
-no_pound_behind : (n : ℕ) (marks : List Mark) → has_pound marks ≡ false → has_pound (drop n marks) ≡ false
-no_pound_behind zero marks none = none
-no_pound_behind (suc n) [] none = none
-no_pound_behind (suc n) (mark ∷ marks) none = no_pound_behind n marks (neither_of (is_pound mark) (has_pound marks) none).1
+no_use_behind : (n : ℕ) (marks : List Mark) → has_use marks ≡ false → has_use (drop n marks) ≡ false
+no_use_behind zero marks none = none
+no_use_behind (suc n) [] none = none
+no_use_behind (suc n) (mark ∷ marks) none = no_use_behind n marks (neither_of (is_use mark) (has_use marks) none).1
 
 same_unused : (b : Bool) (m n : ℕ) → b ≡ false → (if b then m else 0) ≡ (if b then n else 0)
 same_unused true m n none = cc
 same_unused false m n none = refl
 
-use_anywhere : (blocks : List ℕ) (before other marks : List Mark) → has_pound marks ≡ false → use_length blocks before marks ≡ use_length blocks other marks
+use_anywhere : (blocks : List ℕ) (before other marks : List Mark) → has_use marks ≡ false → use_length blocks before marks ≡ use_length blocks other marks
 unfolding use_length
 use_anywhere blocks before other [] none = refl
 use_anywhere blocks before other (mark ∷ marks) none =
-    same_unused (is_use mark) _ _ (not_use mark.sort (neither_of (is_pound mark) (has_pound marks) none).0)
+    same_unused (is_use mark) _ _ (neither_of (is_use mark) (has_use marks) none).0
 
 less_by : (from a b : ℕ) (less : Bool) → nat_lt a b ≡ less → nat_lt (from + a) (from + b) ≡ less
 less_by from a b true is = lt-ltb (from + a) (from + b) (omega (arith, ltb-true a b is))
@@ -140,13 +133,13 @@ less_by from a b false is = le-ltb (from + a) (from + b) (omega (arith, ltb-fals
 less_beyond : (from a b : ℕ) → nat_lt (from + a) (from + b) ≡ nat_lt a b
 less_beyond from a b = less_by from a b (nat_lt a b) refl
 
-module _ (blocks : List ℕ) (own : ℕ) (list : List Mark) (from : ℕ) (none : has_pound (drop from list) ≡ false) where
+module _ (blocks : List ℕ) (own : ℕ) (list : List Mark) (from : ℕ) (none : has_use (drop from list) ≡ false) where
   step_alone : (at : ℕ) (insides : List Inside) → found_step blocks (from + own) list (from + at) insides ≡ found_step blocks own (drop from list) at insides
   step_alone at insides =
       let marks : drop (from + at) list ≡ drop at (drop from list) = sym (drop-drop at from list) in
       let before = reverse (take (from + at) list) in
       let alone = reverse (take at (drop from list)) in
-      let used : use_length blocks before (drop at (drop from list)) ≡ use_length blocks alone (drop at (drop from list)) = use_anywhere blocks before alone (drop at (drop from list)) (no_pound_behind at (drop from list) none) in
+      let used : use_length blocks before (drop at (drop from list)) ≡ use_length blocks alone (drop at (drop from list)) = use_anywhere blocks before alone (drop at (drop from list)) (no_use_behind at (drop from list) none) in
       (λ i. by_lengths (use_length blocks before (marks i)) (if less_beyond from at own i then attribute_length (marks i) else 0) (marks i) insides)
       ∙ ap (λ n. by_lengths n (if nat_lt at own then attribute_length (drop at (drop from list)) else 0) (drop at (drop from list)) insides) used
 
@@ -172,32 +165,6 @@ module _ (blocks : List ℕ) (own : ℕ) (list : List Mark) (from : ℕ) (none :
       ∙ found_alone 0 0 (length (drop from list) - 0) insides
       ∙ ap (λ n. found_from blocks n (drop from list) 0 0 (length (drop from list) - 0) insides) first
 
-begun : {A B F : Type 0} (first : Result A F) (one other : A → Result B F) → ((value : A) → first ≡ Ok value → one value ≡ other value) → and_then first one ≡ and_then first other
-begun (Ok value) one other same = same value refl
-begun (Err found) one other same = refl
-
--- the starter of elements without a `#` word is none
-placed_if : (b : Bool) (start : ParseFault) (mark starter : Mark) → is_pound mark ≡ false → (if b then Ok mark else Err start) ≡ Ok starter → is_pound starter ≡ false
-placed_if true start mark starter none is = let same : mark ≡ starter = cc in subst (λ m. is_pound m ≡ false) same none
-placed_if false start mark starter none is = cc
-
-placed_plain : (place : Place) (start : ℕ) (marks : List Mark) (starter : Mark) → has_pound marks ≡ false → placed place start marks ≡ Ok starter → is_pound starter ≡ false
-placed_plain place start [] starter none is = cc
-placed_plain place start (mark ∷ marks) starter none is = placed_if (has_place place (kind_of mark)) _ mark starter (neither_of (is_pound mark) (has_pound marks) none).0 is
-
-fits_same : (fits : Result (Unit {0}) ParseFault) (mark starter : Mark) → and_then fits (λ fine. Ok mark) ≡ Ok starter → mark ≡ starter
-fits_same (Ok fine) mark starter is = cc
-fits_same (Err found) mark starter is = cc
-
-begins_by : (first : Result Mark ParseFault) (fits : Mark → Result (Unit {0}) ParseFault) (starter : Mark) → and_then first (λ mark. and_then (fits mark) (λ fine. Ok mark)) ≡ Ok starter → first ≡ Ok starter
-begins_by (Ok mark) fits starter is = ap Ok (fits_same (fits mark) mark starter is)
-begins_by (Err found) fits starter is = cc
-
-begins_plain : (place : Place) (own : List Mark) (starter : Mark) → has_pound own ≡ false → beginning place own ≡ Ok starter → is_pound starter ≡ false
-begins_plain place own starter none is =
-    placed_plain place (start_of own) (drop (head_of own - 1) own) starter (no_pound_behind (head_of own - 1) own none)
-    (begins_by (starter_of place own) (use_fits (head_of own)) starter is)
-
 abbrev Ending : Type 0
 Ending = Result (Unit {0}) ParseFault
 
@@ -207,35 +174,31 @@ SameEnding one other = one ≡ other
 abbrev SameItem : Result ItemSeen ParseFault → Result ItemSeen ParseFault → Type 0
 SameItem one other = one ≡ other
 
-if_same : (b : Bool) (one other : Ending) → b ≡ false → SameEnding (if b then one else Ok tt) (if b then other else Ok tt)
-if_same true one other none = cc
-if_same false one other none = refl
-
-module _ (list : List Mark) (from : ℕ) (next : List Mark) (all_insides : List Inside) (all_held : List Held) (none : has_pound (drop from list) ≡ false) where
-  ends_alone : (starter : Mark) → is_pound starter ≡ false → SameEnding (use_ends starter list from) (use_ends starter (drop from list) 0)
-  ends_alone starter plain = if_same (is_pound starter) _ _ plain
+module _ (list : List Mark) (from : ℕ) (next : List Mark) (all_insides : List Inside) (all_held : List Held) (none : has_use (drop from list) ≡ false) where
+  ends_alone : (starter : Mark) → SameEnding (use_ends starter list from) (use_ends starter (drop from list) 0)
+  ends_alone starter =
+      ap (λ n. if is_pound starter then nothing_more (drop n (drop from list)) else Ok tt)
+      (use_anywhere [] (reverse (take from list)) (reverse (take 0 (drop from list))) (drop from list) none)
 
   whole_alone : (which : Kind) (own_parts : Parts) (insides : List Inside) (members : List ItemSeen) → whole_item list from next which own_parts insides members ≡ whole_item (drop from list) 0 next which own_parts insides members
   unfolding whole_item
   whole_alone which own_parts insides members =
       ap (λ found. assembled (span_from (drop from list)) next which own_parts found members) (found_own own_parts.blocks (head_of (drop from list)) list from none insides)
 
-  by_alone : (starter : Mark) → is_pound starter ≡ false → SameItem (item_by list from next all_insides all_held starter) (item_by (drop from list) 0 next all_insides all_held starter)
-  by_alone starter plain =
+  by_alone : (starter : Mark) → SameItem (item_by list from next all_insides all_held starter) (item_by (drop from list) 0 next all_insides all_held starter)
+  by_alone starter =
       let own = drop from list in
       let head = head_of own in
       let place = members_place starter head own in
       let outside = without place all_insides in
       (λ i. and_then (parts (kind_of starter) starter (drop head own) (drop head outside) (drop head all_held)) (λ own_parts.
       and_then (members_at place all_held) (λ inner.
-      and_then (and_then (closed own_parts.body (drop head own)) (λ closes. and_then (ends_alone starter plain i) (λ alone. ends own))) (λ ended. Ok (whole_alone (kind_of starter) own_parts outside inner i)))))
+      and_then (and_then (closed own_parts.body (drop head own)) (λ closes. and_then (ends_alone starter i) (λ alone. ends own))) (λ ended. Ok (whole_alone (kind_of starter) own_parts outside inner i)))))
 
-  -- a declaration without a `#` word is read without what stands before it
+  -- a declaration without a use is read without what stands before it
   item_alone : (place : Place) → SameItem (item_at place list from next all_insides all_held) (item_at place (drop from list) 0 next all_insides all_held)
   unfolding item_at
-  item_alone place =
-      begun (beginning place (drop from list)) (item_by list from next all_insides all_held) (item_by (drop from list) 0 next all_insides all_held)
-      (λ starter is. by_alone starter (begins_plain place (drop from list) starter none is))
+  item_alone place = λ i. and_then (beginning place (drop from list)) (λ starter. by_alone starter i)
 
 -- of what stands behind a declaration no more is looked at than what its end is
 module _ (list : List Mark) (from : ℕ) (next other : List Mark) (all_insides : List Inside) (all_held : List Held) (same : (end : ℕ) → after end next ≡ after end other) where
@@ -274,14 +237,14 @@ reads_itself : (all : List Mark) (at : ℕ) → at < length all → ReadsAs all 
 reads_itself all at within = record { within = within; semicolon = refl; head = refl; start = refl; count = refl; item = λ place many counted insides held. refl }
 
 -- so many elements from a place on, without a `#` word
-cut_alone : (list : List Mark) (at count : ℕ) (place : Place) (next : List Mark) (insides : List Inside) (held : List Held) → has_pound (take count (drop at list)) ≡ false
+cut_alone : (list : List Mark) (at count : ℕ) (place : Place) (next : List Mark) (insides : List Inside) (held : List Held) → has_use (take count (drop at list)) ≡ false
     → SameItem (item_at place (take (at + count) list) at next insides held) (item_at place (take count (drop at list)) 0 next insides held)
 cut_alone list at count place next insides held none =
     let own : drop at (take (at + count) list) ≡ take count (drop at list) = drop-take at count list in
-    item_alone (take (at + count) list) at next insides held (ap has_pound own ∙ none) place
+    item_alone (take (at + count) list) at next insides held (ap has_use own ∙ none) place
     ∙ ap (λ l. item_at place l 0 next insides held) own
 
-same_item : (all marks : List Mark) (here at count : ℕ) → take count (drop here marks) ≡ take count (drop at all) → ((end : ℕ) → after end (drop count (drop here marks)) ≡ after end (drop count (drop at all))) → has_pound (take count (drop here marks)) ≡ false
+same_item : (all marks : List Mark) (here at count : ℕ) → take count (drop here marks) ≡ take count (drop at all) → ((end : ℕ) → after end (drop count (drop here marks)) ≡ after end (drop count (drop at all))) → has_use (take count (drop here marks)) ≡ false
     → (place : Place) (insides : List Inside) (held : List Held)
     → item_at place (take (here + count) marks) here (drop (here + count) marks) insides held ≡ item_at place (take (at + count) all) at (drop (at + count) all) insides held
 same_item all marks here at count own behind none place insides held =
@@ -290,7 +253,7 @@ same_item all marks here at count own behind none place insides held =
     cut_alone marks here count place (drop (here + count) marks) insides held none
     ∙ ap (λ l. item_at place l 0 (drop (here + count) marks) insides held) own
     ∙ item_before (take count (drop at all)) 0 (drop (here + count) marks) (drop (at + count) all) insides held next place
-    ∙ sym (cut_alone all at count place (drop (at + count) all) insides held (sym (ap has_pound own) ∙ none))
+    ∙ sym (cut_alone all at count place (drop (at + count) all) insides held (sym (ap has_use own) ∙ none))
 
 within_list : (n : ℕ) (list : List Mark) → (length (drop n list) == 0) ≡ false → n < length list
 within_list zero [] is = cc
@@ -304,7 +267,7 @@ cut_behind (suc n) zero list = let none : 0 ≡ 0 - suc n = omega arith in ap (�
 cut_behind (suc n) (suc m) [] = sym (take_all (suc m - suc n) [] (omega arith))
 cut_behind (suc n) (suc m) (mark ∷ list) = let left : m - n ≡ suc m - suc n = omega arith in cut_behind n m list ∙ ap (λ k. take k (drop n list)) left
 
-reads_alone : (all marks : List Mark) (here at : ℕ) → SameDeclaration (drop here marks) (drop at all) → (length (drop here marks) == 0) ≡ false → has_pound (take (count_of (drop here marks)) (drop here marks)) ≡ false → ReadsAs all marks here at
+reads_alone : (all marks : List Mark) (here at : ℕ) → SameDeclaration (drop here marks) (drop at all) → (length (drop here marks) == 0) ≡ false → has_use (take (count_of (drop here marks)) (drop here marks)) ≡ false → ReadsAs all marks here at
 reads_alone all marks here at same some none =
     record {
       within = within_list here marks some;
@@ -335,7 +298,7 @@ module _ (all : List Mark) (front : Front) (at : ℕ) (within : at < length all)
       let part = drop here marks in
       let total = length marks in
       let kept = total - here in
-      let outer = both (not (length part == 0) && (nat_lt (count_of part) (length part) || (length part == length all - at))) (not (has_pound (take (count_of part) part))) stands in
+      let outer = both (not (length part == 0) && (nat_lt (count_of part) (length part) || (length part == length all - at))) (not (has_use (take (count_of part) part))) stands in
       let inner = both (not (length part == 0)) (nat_lt (count_of part) (length part) || (length part == length all - at)) outer.0 in
       let some : (length part == 0) ≡ false = negated (length part == 0) inner.0 in
       let there : front.from + here ≡ at = omega (arith, begins) in
@@ -344,7 +307,7 @@ module _ (all : List Mark) (front : Front) (at : ℕ) (within : at < length all)
       let left : length all - at ≡ length (drop at all) = sym (length-drop at all) in
       let ends : (nat_lt (count_of part) (length part) ≡ true) ⊎ ((length part == length (drop at all)) ≡ true) =
       either_of (nat_lt (count_of part) (length part)) (length part == length (drop at all)) (ap (λ n. nat_lt (count_of part) (length part) || (length part == n)) (sym left) ∙ inner.1) in
-      reads_alone all marks here at (same_by part (drop at all) kept is some ends) some (negated (has_pound (take (count_of part) part)) outer.1)
+      reads_alone all marks here at (same_by part (drop at all) kept is some ends) some (negated (has_use (take (count_of part) part)) outer.1)
 
 -- by a front that reads its declaration, the declaration is read as by the whole list
 pub reads_as : (all : List Mark) (front : Front) (at : ℕ) → at < length all → Readable all front at → ReadsAs all front.marks.items (at - front.from) at

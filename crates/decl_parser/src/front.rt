@@ -4,12 +4,12 @@ ghost use Rattle.std.specs.Prelude.{◌≡◌, ◌||◌, IfOk, drop, length};
 ghost use Rattle.std.specs.List.{list_any};
 ghost use Rattle.swift_lexer.specs.Trees.{forest_of};
 ghost use Rattle.element_marks.specs.Levels.{level};
-ghost use Rattle.element_marks.specs.Sorts.{is_pound};
-ghost use Rattle.decl_parser.specs.Fronts.{IsFront, Readable, has_pound, is_all, is_readable, stands_alone};
+ghost use Rattle.element_marks.specs.Sorts.{is_use};
+ghost use Rattle.decl_parser.specs.Fronts.{IsFront, Readable, has_use, is_all, is_readable, stands_alone};
 
 use crate::items::count_of;
 use crate::lists::{behind, upto};
-use element_marks::{Mark, front_marks, is_pound, marks_in};
+use element_marks::{Mark, front_marks, is_use, marks_in};
 use std::alloc::{AllocError, Global};
 use swift_lexer::Element;
 
@@ -68,19 +68,19 @@ fn is_all(front: &Front, total: usize) -> bool
     front.from == 0 && front.marks.len() == total
 }
 
-/// Whether the declaration that begins here ends with these elements or before, where so many are left, and no `#`
-/// word stands in it.
+/// Whether the declaration that begins here ends with these elements or before, where so many are left, and no use
+/// begins in it.
 fn stands_alone(marks: &[Mark], left: usize) -> bool
     ensures { result ≡ stands_alone marks.now left }
 {
     let count = count_of(marks);
     !marks.is_empty()
         && (count < marks.len() || marks.len() == left)
-        && !has_pound(upto(marks, count))
+        && !has_use(upto(marks, count))
 }
 
-fn has_pound(marks: &[Mark]) -> bool
-    ensures { result ≡ has_pound marks.now }
+fn has_use(marks: &[Mark]) -> bool
+    ensures { result ≡ has_use marks.now }
 {
-    marks.iter().any(|mark| is_pound(mark))
+    marks.iter().any(|mark| is_use(mark))
 }
